@@ -1,0 +1,2 @@
+-- The values of the definitions.
+pub mod ByValue

@@ -1,0 +1,126 @@
+-- Document 01's calls as functions of their arguments: the refusal number, the answer and what the lent memory then holds.
+-- Assumes nothing.
+use Prim.Native.Nat.{ℕ, zero, suc, _*_, _-_}
+use mathlib.Core.Bool.{Bool, true, false, _||_, not, Bool·beq}
+use mathlib.Core.List.{List, [], _∷_, _++_}
+use lib.ListN.{length, drop, set}
+use lib.Dec.{ltb, eqb}
+use Rattle.model.specs.Below.{any, least}
+use Rattle.model.specs.Graph.{Graph, byTable}
+use Rattle.model.specs.Groups.{Settings, VertexSet, qualifies}
+use Rattle.model.specs.Walk.{Position, Rules, Page, only, page}
+use Rattle.model.specs.Listing.{is, rules}
+
+-- refusal k where the test finds a fault, and otherwise what the later tests find; 0 is acceptance
+unfoldable pub refuse : ℕ → Bool → ℕ → ℕ
+refuse k true later = k
+refuse k false later = later
+
+-- some byte of the list is over m
+unfoldable pub over : ℕ → List ℕ → Bool
+over m [] = false
+over m (b ∷ bs) = let rest = over m bs in ltb m b || rest
+
+-- some vertex is joined to itself
+unfoldable pub looped : Graph → Bool
+looped G = any (G .size) (λ u. G .joined u u)
+
+-- some u is joined to a v that is not joined to u
+unfoldable pub oneWay : Graph → Bool
+oneWay G = any (G .size) (λ u. any (G .size) (λ v. not (Bool·beq (G .joined u v) (G .joined v u))))
+
+-- Document 01, "Turned back by the input": 1 n over 1,024; 2 table length not n × n; 3 a table byte other than 0 or 1; 4 a 1 on the diagonal; 5 not symmetric
+unfoldable pub refuseTable : ℕ → List ℕ → ℕ → ℕ
+refuseTable n t later =
+    refuse 1 (ltb 1024 n)
+    (refuse 2 (not (eqb (length t) (n * n)))
+    (refuse 3 (over 1 t)
+    (refuse 4 (looped (byTable n t))
+    (refuse 5 (oneWay (byTable n t)) later))))
+
+-- Document 01, "Turned back by the input": 6 notion over 2; 7 kind over 1; 8 c is 0 or over 1,024
+unfoldable pub refuseSettings : Settings → ℕ → ℕ
+refuseSettings s later =
+    refuse 6 (ltb 2 (s .notion))
+    (refuse 7 (ltb 1 (s .kind))
+    (refuse 8 (eqb (s .factor) 0 || ltb 1024 (s .factor)) later))
+
+-- Document 01, "Turned back by the input": 9 position or set length not n; 10 work slice under 8 × n
+unfoldable pub refuseLengths : ℕ → List ℕ → ℕ → ℕ → ℕ
+refuseLengths n p work later = refuse 9 (not (eqb (length p) n)) (refuse 10 (ltb work (8 * n)) later)
+
+-- a decided rank after an open one
+unfoldable pub gap : Position → Bool
+gap [] = false
+gap (zero ∷ p) = not (only 0 p)
+gap (suc x ∷ p) = gap p
+
+-- the position with its last decided rank opened; fresh stays
+unfoldable pub reopened : Position → Position
+reopened p = set p (least (length p) (is 0 p) - 1) 0
+
+-- Document 01, "Turned back by the state": 21 a position byte over 2; 22 a decided rank after an open one; 23 the position with its last
+-- decided rank opened is dead (fresh passes)
+unfoldable pub refusePosition : Rules → Position → ℕ
+refusePosition R p = refuse 21 (over 2 p) (refuse 22 (gap p) (refuse 23 (R .dead (reopened p)) 0))
+
+-- the refusal number of a page call; `work` is the length of the work slice
+unfoldable pub refusePage : ℕ → List ℕ → Settings → Position → ℕ → ℕ
+refusePage n t s p work =
+    refuseTable n t (refuseSettings s (refuseLengths n p work (refusePosition (rules (byTable n t) s) p)))
+
+-- Document 01, "A page": a page call's answer, and the position and the output slice as it leaves them
+pub record PageReply : Type 0 where
+  pub refused : ℕ
+  pub stop : ℕ
+  pub groups : ℕ
+  pub used : ℕ
+  pub steps : ℕ
+  pub wanted : ℕ
+  pub position : Position
+  pub output : List ℕ
+
+-- by the refusal number. Accepted: the written entries come first in the output, and the rest of it keeps its contents. Refused: all other
+-- numbers are 0, and lent memory is unchanged
+unfoldable pub replyOf : ℕ → Page → Position → List ℕ → PageReply
+replyOf zero r p out =
+    record {
+      refused = 0;
+      stop = r .stop;
+      groups = r .groups;
+      used = length (r .written);
+      steps = r .steps;
+      wanted = r .wanted;
+      position = r .reached;
+      output = r .written ++ drop (length (r .written)) out;
+    }
+replyOf (suc k) r p out =
+    record { refused = suc k; stop = 0; groups = 0; used = 0; steps = 0; wanted = 0; position = p; output = out }
+
+-- the page call, by the graph's size and table, the settings, the budget, the position, the output slice and the work slice's length
+unfoldable pub pageCall : ℕ → List ℕ → Settings → ℕ → Position → List ℕ → ℕ → PageReply
+pageCall n t s budget p out work =
+    replyOf (refusePage n t s p work) (page (rules (byTable n t) s) budget (length out) p) p out
+
+-- Document 01, "One set, one text, one program": the set is n bytes, 1 for a member
+abbrev pub byBytes : List ℕ → VertexSet
+byBytes bs = is 1 bs
+
+-- the refusal number of a set query; 11 (set query only) a set byte over 1
+unfoldable pub refuseQuery : ℕ → List ℕ → Settings → List ℕ → ℕ → ℕ
+refuseQuery n t s bs work =
+    refuseTable n t (refuseSettings s (refuseLengths n bs work (refuse 11 (over 1 bs) 0)))
+
+-- a set query's answer; it leaves table and set as they are, and the work slice too where it is refused
+pub record QueryReply : Type 0 where
+  pub refused : ℕ
+  pub yes : Bool
+
+-- by the refusal number: accepted, what the test says; refused, no
+unfoldable pub queryReply : ℕ → Bool → QueryReply
+queryReply zero q = record { refused = 0; yes = q }
+queryReply (suc k) q = record { refused = suc k; yes = false }
+
+-- the set query, by the graph's size and table, the settings, the set's bytes and the work slice's length
+unfoldable pub query : ℕ → List ℕ → Settings → List ℕ → ℕ → QueryReply
+query n t s bs work = queryReply (refuseQuery n t s bs work) (qualifies (byTable n t) s (byBytes bs))

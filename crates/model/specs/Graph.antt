@@ -1,0 +1,39 @@
+-- Document 01, "Graph and ranks". A graph is its number of vertices and which of them are joined, whatever table holds it.
+-- Assumes nothing.
+use Prim.Native.Nat.{ℕ, _+_, _*_}
+use mathlib.Core.Bool.{Bool, _&&_, _||_}
+use mathlib.Core.List.{List}
+use lib.ListN.{getD}
+use lib.Dec.{ltb, eqb}
+use Rattle.model.specs.Below.{count, least}
+
+-- the vertices are the numbers below `size`
+pub record Graph : Type 0 where
+  pub size : ℕ
+  pub joined : ℕ → ℕ → Bool
+
+-- The graph on n vertices in which u and v are joined where f says so. What is not a vertex is joined to nothing, so that two tables that
+-- agree on the vertices give one and the same graph.
+unfoldable pub onVertices : ℕ → (ℕ → ℕ → Bool) → Graph
+onVertices n f = record { size = n; joined = λ u v. ltb u n && ltb v n && f u v }
+
+-- Document 01, "Graph and ranks": the table is n × n bytes, row by row; byte u × n + v is 1 if u and v are joined
+unfoldable pub byTable : ℕ → List ℕ → Graph
+byTable n t = onVertices n (λ u v. eqb (getD t (u * n + v) 0) 1)
+
+-- Document 01, "Graph and ranks": the degree of a vertex is the ones in its row
+unfoldable pub degree : Graph → ℕ → ℕ
+degree G u = count (G .size) (G .joined u)
+
+-- Document 01, "Graph and ranks": rank 0 is the vertex of least degree, and equal degrees go by smaller vertex number. So u comes before v
+-- where it has the smaller degree, or the same degree and the smaller number
+unfoldable pub before : Graph → ℕ → ℕ → Bool
+before G u v = ltb (degree G u) (degree G v) || (eqb (degree G u) (degree G v) && ltb u v)
+
+-- the rank of v: how many vertices come before it
+unfoldable pub rankOf : Graph → ℕ → ℕ
+rankOf G v = count (G .size) (λ u. before G u v)
+
+-- the vertex at rank r
+unfoldable pub vertexAt : Graph → ℕ → ℕ
+vertexAt G r = least (G .size) (λ v. eqb (rankOf G v) r)
