@@ -1,0 +1,5 @@
+-- Tests, counts and lists of the numbers below n: what the library lacks.
+pub mod Tests
+pub mod Counting
+pub mod Passing
+pub mod PassingParts

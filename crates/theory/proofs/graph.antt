@@ -1,0 +1,7 @@
+-- The table, ranks, cliques and isolation.
+pub mod Table
+pub mod Ranks
+pub mod Cliques
+pub mod Degrees
+pub mod Factor
+pub mod Meaning

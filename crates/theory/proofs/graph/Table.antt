@@ -1,0 +1,52 @@
+-- The byte table as a graph. Assumes nothing.
+use Prim.Native.Nat.{ℕ, _+_, _-_, _*_, _≤_, _<_}
+use mathlib.Core.Path.{_≡_, sym, ap, _∙_}
+use mathlib.Core.Bool.{Bool, true, false, _&&_}
+use mathlib.Core.List.{List}
+use native.Mathlib.Nat.{suc-mul, mul-le-mul-right, le-trans}
+use native.Mathlib.Omega.{arith}
+use lib.ListN.{length, getD, take, drop, length-take, length-drop}
+use lib.Seq.{getD-take, getD-drop}
+use lib.Dec.{ltb, eqb}
+use borrow.Author.Tests.{lt-ltb, ltb-true}
+use mathlib.Core.Logic.{_⊎_, inl, inr}
+use Rattle.model.specs.Below.{count}
+use Rattle.model.specs.Graph.{onVertices, byTable, degree}
+use Rattle.theory.proofs.basics.Tests.{count-same, passes-or-fails}
+
+-- two tables that agree on the vertices, whatever their layouts, are one graph: every definition then has one value for both
+pub same-graph : (n : ℕ) (f g : ℕ → ℕ → Bool) → ((u v : ℕ) → u < n → v < n → f u v ≡ g u v) → onVertices n f ≡ onVertices n g
+unfolding onVertices
+same-graph n f g e = λ i. record { size = n; joined = λ u v. at u v (passes-or-fails (ltb u n)) (passes-or-fails (ltb v n)) i }
+  where
+    at : (u v : ℕ) → (ltb u n ≡ true) ⊎ (ltb u n ≡ false) → (ltb v n ≡ true) ⊎ (ltb v n ≡ false) → (ltb u n && ltb v n && f u v) ≡ (ltb u n && ltb v n && g u v)
+    at u v (inl a) (inl b) = rw (a, b) (e u v (ltb-true u n a) (ltb-true v n b))
+    at u v (inl a) (inr b) = rw (a, b)
+    at u v (inr a) b = rw a
+
+-- a row ends within the table
+pub row-end : (n u : ℕ) → u < n → u * n + n ≤ n * n
+row-end n u h = le-trans (omega (arith, suc-mul u n)) (mul-le-mul-right n h)
+
+module _ (n : ℕ) (t : List ℕ) (u : ℕ) (hu : u < n) where
+  -- two vertices are joined where the byte of their pair is 1
+  pub joined-at : (v : ℕ) → v < n → byTable n t .joined u v ≡ eqb (getD t (u * n + v) 0) 1
+  unfolding onVertices byTable
+  joined-at v hv = rw (lt-ltb u n hu, lt-ltb v n hv)
+
+  -- the degree is the ones in the row
+  pub degree-row : degree (byTable n t) u ≡ count n (λ i. eqb (getD (take n (drop (u * n) t)) i 0) 1)
+  unfolding degree onVertices byTable
+  degree-row = count-same n _ _ (λ v hv. joined-at v hv ∙ ap (λ (x : ℕ). eqb x 1) (sym (getD-take n (drop (u * n) t) v 0 hv ∙ getD-drop (u * n) t v 0)))
+
+  -- the same of the row as a part of the table, as code lends it
+  pub degree-part : length t ≡ n * n →
+      count (length (take (u * n + n - u * n) (drop (u * n) t))) (λ i. eqb (getD (take (u * n + n - u * n) (drop (u * n) t)) i 0) 1)
+      ≡ degree (byTable n t) u
+  degree-part e =
+      let w : u * n + n - u * n ≡ n = omega arith in
+      rw w
+      (ap (λ (k : ℕ). count k (λ i. eqb (getD (take n (drop (u * n) t)) i 0) 1)) whole ∙ sym degree-row)
+    where
+      whole : length (take n (drop (u * n) t)) ≡ n
+      whole = simp (length-take, length-drop) (omega (arith, row-end n u hu))

@@ -1,0 +1,4 @@
+-- What the program prints.
+pub mod Numeral
+pub mod Printed
+pub mod Program

@@ -1,0 +1,224 @@
+-- What the program prints: one output for all words and texts, the same page by page, and the example of document 01.
+-- Assumes nothing.
+use Prim.Native.Nat.{ℕ, zero, suc, _*_, _≤_, _<_}
+use mathlib.Core.Path.{_≡_, refl, sym, ap, ap₂, _∙_, subst, subst⁻¹}
+use mathlib.Core.Bool.{Bool, true, false, cond}
+use mathlib.Core.Logic.{_≢_}
+use mathlib.Core.Option.{Option, none, some}
+use mathlib.Core.List.{List, [], _∷_, _++_}
+use native.Mathlib.Omega.{arith}
+use lib.ListN.{length, take, replicate, length-append}
+use lib.Dec.{ltb}
+use borrow.Author.Tests.{lt-ltb, le-ltb}
+use Rattle.model.specs.Compute.{compute}
+use Rattle.model.specs.Graph.{Graph, byTable}
+use Rattle.model.specs.Groups.{Settings}
+use Rattle.model.specs.Walk.{Position, fresh, after, records, fullSets, fullList}
+use Rattle.model.specs.Listing.{recordOf, rules}
+use Rattle.model.specs.Calls.{refuseTable, refuseSettings, refusePage, PageReply}
+use Rattle.model.specs.Demand.{allSteps, allGroups, SomeFinished, Demand3}
+use Rattle.model.specs.Text.{numberOf, TextReply}
+use Rattle.model.specs.Program.{Words, wrong, chosen, Verdict, refusal, listing, bounded, three, settingsOf, printed, printedPages, held, endLine, refusedLine, reading, byReading, byWords, programVerdict, PrintsAt, Prints}
+use Rattle.theory.proofs.walk.Ends.{walk-ends, length-once}
+use Rattle.theory.proofs.walk.Walk.{records-append}
+use Rattle.theory.proofs.calls.Pages.{Chain, chain-demand, table-lawful}
+use Rattle.theory.proofs.calls.Next.{walk-page-accepted}
+use Rattle.theory.proofs.program.Printed.{pages-printed}
+use Rattle.theory.proofs.text.EdgeTextGraph.{read-table-accepted}
+
+-- ---- refusals
+
+-- the settings that words give pass, and a refusal has a number
+abbrev Passed : Words → Type 0
+Passed (wrong k) = 0 < k
+Passed (chosen s) = refuseSettings s 0 ≡ 0
+
+bounded-passed : (k : ℕ) (s : Settings) → refuseSettings s 0 ≡ k → Passed (bounded k s)
+unfolding bounded
+bounded-passed zero s e = e
+bounded-passed (suc k) s e = omega arith
+
+three-passed : (a b c : Option ℕ) → Passed (three a b c)
+unfolding three
+three-passed none b c = omega arith
+three-passed (some x) none c = omega arith
+three-passed (some x) (some y) none = omega arith
+three-passed (some x) (some y) (some z) = bounded-passed _ _ refl
+
+words-passed : (words : List (List ℕ)) → Passed (settingsOf words)
+unfolding settingsOf
+words-passed [] = omega arith
+words-passed (a ∷ []) = omega arith
+words-passed (a ∷ b ∷ []) = omega arith
+words-passed (a ∷ b ∷ c ∷ []) = three-passed (numberOf a) (numberOf b) (numberOf c)
+words-passed (a ∷ b ∷ c ∷ d ∷ ds) = omega arith
+
+-- what is listed has settings and a table without fault, and a refusal has a number
+abbrev pub Listable : Verdict → Type 0
+Listable (refusal k line) = 0 < k
+Listable (listing s n t) = (refuseSettings s 0 ≡ 0) × (refuseTable n t 0 ≡ 0)
+
+reading-listable : (k : ℕ) (s : Settings) (r : TextReply) → refuseSettings s 0 ≡ 0
+    → (k ≡ 0 → refuseTable (r .vertices) (take (r .vertices * r .vertices) (r .slice)) 0 ≡ 0) → Listable (byReading k s r)
+unfolding byReading
+reading-listable zero s r h f = (h, f refl)
+reading-listable (suc k) s r h f = omega arith
+
+words-listable : (w : Words) (text : List ℕ) → Passed w → Listable (byWords w text)
+unfolding byWords reading
+words-listable (wrong k) text h = h
+words-listable (chosen s) text h =
+    go (ltb 65536 (length text)) (reading-listable (reading text .refused) s (reading text) h (read-table-accepted text (replicate 65536 0)))
+  where
+    go : (b : Bool) → Listable (byReading (reading text .refused) s (reading text))
+        → Listable (cond b (refusal 41 0) (byReading (reading text .refused) s (reading text)))
+    go true l = omega arith
+    go false l = l
+
+-- so for any words and text
+pub verdict-listable : (words : List (List ℕ)) (text : List ℕ) → Listable (programVerdict words text)
+unfolding programVerdict
+verdict-listable words text = words-listable (settingsOf words) text (words-passed words)
+
+-- words come first: their refusal is all that is printed, whatever the text
+pub words-refused : (words : List (List ℕ)) (text : List ℕ) (k : ℕ) → settingsOf words ≡ wrong k → Prints words text (refusedLine k 0)
+unfolding programVerdict byWords PrintsAt
+words-refused words text k e = subst⁻¹ (λ (w : Words). PrintsAt (byWords w text) (refusedLine k 0)) e refl
+
+-- then 41, a text of more than 65,536 bytes
+pub long-refused : (words : List (List ℕ)) (text : List ℕ) (s : Settings) → settingsOf words ≡ chosen s → 65536 < length text
+    → Prints words text (refusedLine 41 0)
+unfolding programVerdict byWords PrintsAt
+long-refused words text s e h =
+    subst⁻¹ (λ (w : Words). PrintsAt (byWords w text) (refusedLine 41 0)) e
+    (rw (lt-ltb 65536 (length text) h, byWords) refl)
+
+reading-refused : (k : ℕ) (s : Settings) (r : TextReply) → k ≢ 0 → PrintsAt (byReading k s r) (refusedLine k (r .line))
+unfolding byReading PrintsAt
+reading-refused zero s r d = absurd (d refl)
+reading-refused (suc k) s r d = refl
+
+-- then the text
+pub text-refused : (words : List (List ℕ)) (text : List ℕ) (s : Settings) → settingsOf words ≡ chosen s → length text ≤ 65536
+    → reading text .refused ≢ 0 → Prints words text (refusedLine (reading text .refused) (reading text .line))
+unfolding programVerdict byWords PrintsAt
+text-refused words text s e h d =
+    subst⁻¹ (λ (w : Words). PrintsAt (byWords w text) (refusedLine (reading text .refused) (reading text .line))) e
+    (rw (le-ltb 65536 (length text) h, byWords) (reading-refused (reading text .refused) s (reading text) d))
+
+-- a wrong count of words is `refused 32 0`
+pub wrong-count : (words : List (List ℕ)) (text : List ℕ) → length words ≢ 3 → Prints words text (refusedLine 32 0)
+unfolding programVerdict settingsOf byWords PrintsAt
+wrong-count [] text d = refl
+wrong-count (a ∷ []) text d = refl
+wrong-count (a ∷ b ∷ []) text d = refl
+wrong-count (a ∷ b ∷ c ∷ []) text d = absurd (d refl)
+wrong-count (a ∷ b ∷ c ∷ e ∷ es) text d = refl
+
+-- ---- one output
+
+at-once : (x : Verdict) (a b : List ℕ) → PrintsAt x a → PrintsAt x b → a ≡ b
+unfolding PrintsAt
+at-once (refusal k line) a b p q = p ∙ sym q
+at-once (listing s n t) a b p q =
+    let R = rules (byTable n t) s in
+    p .2
+    ∙ ap (λ (k : ℕ). printed (fullList R n) ++ endLine (held (length (fullSets R n))) (held k)) (length-once R (p .0) (q .0) (fresh n) (p .1) (q .1))
+    ∙ sym (q .2)
+
+-- the words and the text determine what is printed
+pub prints-once : (words : List (List ℕ)) (text a b : List ℕ) → Prints words text a → Prints words text b → a ≡ b
+prints-once words text = at-once (programVerdict words text)
+
+at-some : (x : Verdict) → Listable x → (out : List ℕ) × PrintsAt x out
+unfolding PrintsAt
+at-some (refusal k line) l = (refusedLine k line, refl)
+at-some (listing s n t) l = let w = walk-ends (rules (byTable n t) s) n (table-lawful n t s (l .1)) in (_, (w .0, w .1, refl))
+
+-- something is printed whatever the words and the text
+pub prints-some : (words : List (List ℕ)) (text : List ℕ) → (out : List ℕ) × Prints words text out
+prints-some words text = at-some (programVerdict words text) (verdict-listable words text)
+
+-- ---- page by page
+
+-- no page call on what is listed is refused: not from fresh, nor from any position that the walk reaches
+pub listing-accepted : (s : Settings) (n : ℕ) (t : List ℕ) → Listable (listing s n t) → (k work : ℕ) → 8 * n ≤ work
+    → refusePage n t s (after (rules (byTable n t) s) k (fresh n)) work ≡ 0
+listing-accepted s n t l = walk-page-accepted n t s (l .1) (l .0)
+
+no-records : (G : Graph) (s : Settings) (ps : List Position) → length (records (rules G s) ps) ≡ 0 → length ps ≡ 0
+unfolding records recordOf
+no-records G s [] e = refl
+no-records G s (p ∷ ps) e = absurd (omega arith)
+
+module _ (s : Settings) (n : ℕ) (t : List ℕ) (valid : refuseTable n t 0 ≡ 0) (rs : List PageReply)
+    (chain : Chain (rules (byTable n t) s) (fresh n) rs) (ended : SomeFinished rs) where
+  demand : Demand3 (rules (byTable n t) s) n rs
+  demand = chain-demand (rules (byTable n t) s) n (table-lawful n t s valid) rs chain
+
+  -- replies that end the walk have reported every group
+  pub all-groups : allGroups rs ≡ length (fullSets (rules (byTable n t) s) n)
+  unfolding fullList
+  all-groups =
+      let R = rules (byTable n t) s in
+      let d = demand .listed in
+      let a = ap length (sym (d .entries) ∙ demand .whole ended .0 ∙ ap (records R) (d .first) ∙ records-append R (d .front) (d .rest)) in
+      let b = length-append (records R (d .front)) (records R (d .rest)) in
+      let z = no-records (byTable n t) s (d .rest) (omega arith) in
+      let c = ap length (d .first) ∙ length-append (d .front) (d .rest) in
+      let g = d .number in
+      omega arith
+
+  at-pages : PrintsAt (listing s n t) (printedPages rs ++ endLine (held (allGroups rs)) (held (allSteps rs)))
+  unfolding PrintsAt
+  at-pages = (
+    allSteps rs,
+    demand .whole ended .1,
+    ap₂ {C = List ℕ} (λ l r. l ++ r)
+        (pages-printed (byTable n t) s rs (fresh n) chain ∙ ap printed (demand .whole ended .0))
+        (ap (λ (g : ℕ). endLine (held g) (held (allSteps rs))) all-groups),
+  )
+
+-- replies to page calls from fresh on, of which one has said Finished, print page by page what the program prints
+pub pages-print : (words : List (List ℕ)) (text : List ℕ) (s : Settings) (n : ℕ) (t : List ℕ) → programVerdict words text ≡ listing s n t
+    → (rs : List PageReply) → Chain (rules (byTable n t) s) (fresh n) rs → SomeFinished rs
+    → Prints words text (printedPages rs ++ endLine (held (allGroups rs)) (held (allSteps rs)))
+pages-print words text s n t e rs chain ended =
+    subst⁻¹ (λ (x : Verdict). PrintsAt x (printedPages rs ++ endLine (held (allGroups rs)) (held (allSteps rs)))) e
+    (at-pages s n t (subst Listable e (verdict-listable words text) .1) rs chain ended)
+
+-- ---- the example of document 01
+
+-- `2 0 2`
+abbrev pub exampleWords : List (List ℕ)
+exampleWords = (50 ∷ []) ∷ (48 ∷ []) ∷ (50 ∷ []) ∷ []
+
+-- `p edge 4 3`, `e 1 2`, `e 1 3`, `e 1 4`
+abbrev pub exampleText : List ℕ
+exampleText =
+    112 ∷ 32 ∷ 101 ∷ 100 ∷ 103 ∷ 101 ∷ 32 ∷ 52 ∷ 32 ∷ 51 ∷ 10 ∷
+    101 ∷ 32 ∷ 49 ∷ 32 ∷ 50 ∷ 10 ∷
+    101 ∷ 32 ∷ 49 ∷ 32 ∷ 51 ∷ 10 ∷
+    101 ∷ 32 ∷ 49 ∷ 32 ∷ 52 ∷ 10 ∷ []
+
+-- `2`, `3`, `4`, `end 3 20`
+abbrev pub exampleOutput : List ℕ
+exampleOutput =
+    50 ∷ 10 ∷
+    51 ∷ 10 ∷
+    52 ∷ 10 ∷
+    101 ∷ 110 ∷ 100 ∷ 32 ∷ 51 ∷ 32 ∷ 50 ∷ 48 ∷ 10 ∷ []
+
+-- The example of document 01 prints what document 01 says
+pub example-prints : Prints exampleWords exampleText exampleOutput
+unfolding compute PrintsAt
+example-prints = (20, refl, refl)
+
+-- `refused 32 0`, without words and for `2 0`
+abbrev pub countOutput : List ℕ
+countOutput = 114 ∷ 101 ∷ 102 ∷ 117 ∷ 115 ∷ 101 ∷ 100 ∷ 32 ∷ 51 ∷ 50 ∷ 32 ∷ 48 ∷ 10 ∷ []
+
+-- and these words print it, whatever the text
+pub count-prints : (text : List ℕ) → Prints [] text countOutput × Prints ((50 ∷ []) ∷ (48 ∷ []) ∷ []) text countOutput
+unfolding compute PrintsAt
+count-prints text = (refl, refl)

@@ -1,0 +1,11 @@
+-- Edge texts and their reader.
+pub mod EdgeText
+pub mod EdgeTextDrawn
+pub mod EdgeTextFaults
+pub mod EdgeTextFields
+pub mod EdgeTextGraph
+pub mod EdgeTextLines
+pub mod EdgeTextRun
+pub mod EdgeTextSpelling
+pub mod EdgeTextStep
+pub mod EdgeTextTable

@@ -1,0 +1,2 @@
+-- How code computes what the definitions of crate model say.
+pub mod Search

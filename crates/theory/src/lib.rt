@@ -1,0 +1,1 @@
+// Theorems only: they are about the definitions of crate model. No function is declared.
