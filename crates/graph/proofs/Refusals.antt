@@ -1,0 +1,143 @@
+-- The refusals of a table as a search over it finds them, and what an accepted table has.
+-- Assumes nothing.
+use Prim.Native.Nat.{ℕ, zero, suc, _*_, _≤_, _<_}
+use mathlib.Core.Path.{_≡_, refl, sym, _∙_}
+use mathlib.Core.Bool.{Bool, true, false, _||_, not, Bool·beq, true≢false}
+use mathlib.Core.List.{List, [], _∷_}
+use mathlib.Core.Logic.{_⊎_, inl, inr}
+use native.Mathlib.Nat.{not-suc-le-zero, le-of-suc-le-suc}
+use native.Mathlib.Omega.{arith}
+use lib.ListN.{length, getD}
+use lib.Dec.{ltb, eqb}
+use borrow.Author.Tests.{lt-ltb, le-ltb, ltb-false, eqb-true, not-false}
+use Rattle.model.specs.Below.{any}
+use Rattle.model.specs.Graph.{Graph, onVertices, byTable}
+use Rattle.model.specs.Calls.{refuse, over, looped, oneWay, refuseTable}
+use Rattle.theory.proofs.basics.Tests.{test-self, test-any, fails, trichotomy}
+use Rattle.graph.specs.Table.{TableFits, differ}
+
+-- a search below n: what it finds, and that it finds nothing
+pub any-found : (n : ℕ) (p : ℕ → Bool) (i : ℕ) → i < n → p i ≡ true → any n p ≡ true
+any-found n p i h e = test-any n p (λ k. test-self) .1 (i, h, e)
+
+pub any-none : (n : ℕ) (p : ℕ → Bool) → ((i : ℕ) → i < n → p i ≡ false) → any n p ≡ false
+any-none n p f = fails (any n p) (λ e. let r = test-any n p (λ k. test-self) .0 e in true≢false (sym (r .2) ∙ f (r .0) (r .1)))
+
+pub any-each : (n : ℕ) (p : ℕ → Bool) → any n p ≡ false → (i : ℕ) → i < n → p i ≡ false
+any-each n p e i h = fails (p i) (λ q. true≢false (sym (any-found n p i h q) ∙ e))
+
+-- refusal 3: a byte that is over m, and none
+pub over-found : (m : ℕ) (bs : List ℕ) (i : ℕ) → i < length bs → m < getD bs i 0 → over m bs ≡ true
+unfolding over
+over-found m [] i h g = absurd (not-suc-le-zero h)
+over-found m (b ∷ bs) zero h g = rw (lt-ltb m b g)
+over-found m (b ∷ bs) (suc i) h g = either (ltb m b) (over-found m bs i (le-of-suc-le-suc h) g)
+  where
+    either : (a : Bool) → over m bs ≡ true → (a || over m bs) ≡ true
+    either true e = refl
+    either false e = e
+
+pub over-none : (m : ℕ) (bs : List ℕ) → ((i : ℕ) → i < length bs → getD bs i 0 ≤ m) → over m bs ≡ false
+unfolding over
+over-none m [] f = refl
+over-none m (b ∷ bs) f = rw (le-ltb m b (f zero (omega arith))) (over-none m bs (λ i h. f (suc i) (omega arith)))
+
+-- refusal 5: of two vertices one is below the other, so it is enough to test each u against the vertices below it
+module _ (G : Graph) where
+  differ-self : (u : ℕ) → differ G u u ≡ false
+  differ-self u = go (G .joined u u)
+    where
+      go : (b : Bool) → not (Bool·beq b b) ≡ false
+      go true = refl
+      go false = refl
+
+  differ-turn : (u v : ℕ) → differ G v u ≡ false → differ G u v ≡ false
+  differ-turn u v = go (G .joined u v) (G .joined v u)
+    where
+      go : (a b : Bool) → not (Bool·beq b a) ≡ false → not (Bool·beq a b) ≡ false
+      go true true e = e
+      go true false e = e
+      go false true e = e
+      go false false e = e
+
+  pub one-way-found : (u : ℕ) → u < G .size → any u (differ G u) ≡ true → oneWay G ≡ true
+  unfolding oneWay
+  one-way-found u h e =
+      let r = test-any u (differ G u) (λ k. test-self) .0 e in
+      any-found (G .size) (λ w. any (G .size) (differ G w)) u h (any-found (G .size) (differ G u) (r .0) (let l = r .1 in omega arith) (r .2))
+
+  pub one-way-none : ((u : ℕ) → u < G .size → any u (differ G u) ≡ false) → oneWay G ≡ false
+  unfolding oneWay
+  one-way-none f = any-none (G .size) (λ w. any (G .size) (differ G w)) (λ u hu. any-none (G .size) (differ G u) (λ v hv. at u v hu hv (trichotomy v u)))
+    where
+      at : (u v : ℕ) → u < G .size → v < G .size → (v < u) ⊎ (v ≡ u) ⊎ (u < v) → differ G u v ≡ false
+      at u v hu hv (inl l) = any-each u (differ G u) (f u hu) v l
+      at u v hu hv (inr (inl e)) = rw e (differ-self u)
+      at u v hu hv (inr (inr l)) = differ-turn u v (any-each v (differ G v) (f v hv) u l)
+
+-- the five tests in their order
+abbrev pub five : Bool → Bool → Bool → Bool → Bool → ℕ → ℕ
+five a b c d e later = refuse 1 a (refuse 2 b (refuse 3 c (refuse 4 d (refuse 5 e later))))
+
+five-pass : (a b c d e : Bool) → five a b c d e 0 ≡ 0 → (a ≡ false) × (b ≡ false) × (c ≡ false) × (d ≡ false) × (e ≡ false)
+unfolding refuse
+five-pass true b c d e h = absurd (omega arith)
+five-pass false true c d e h = absurd (omega arith)
+five-pass false false true d e h = absurd (omega arith)
+five-pass false false false true e h = absurd (omega arith)
+five-pass false false false false true h = absurd (omega arith)
+five-pass false false false false false h = (refl, refl, refl, refl, refl)
+
+five-later : (a b c d e : Bool) (later : ℕ) → five a b c d e 0 ≡ 0 → five a b c d e later ≡ later
+unfolding refuse
+five-later a b c d e later h = let p = five-pass a b c d e h in rw (p .0, p .1, p .2, p .3, p .4)
+
+five-fault : (a b c d e : Bool) (later : ℕ) → (five a b c d e 0 ≡ 0 → ⊥) → five a b c d e later ≡ five a b c d e 0
+unfolding refuse
+five-fault true b c d e later h = refl
+five-fault false true c d e later h = refl
+five-fault false false true d e later h = refl
+five-fault false false false true e later h = refl
+five-fault false false false false true later h = refl
+five-fault false false false false false later h = absurd (h refl)
+
+-- what an accepted table has
+pub record TableAccepted (n : ℕ) (t : List ℕ) : Type 0 where
+  pub fits : TableFits n t
+  pub bits : over 1 t ≡ false
+  pub no-loop : (u : ℕ) → u < n → byTable n t .joined u u ≡ false
+  pub both-ways : (u v : ℕ) → u < n → v < n → byTable n t .joined u v ≡ byTable n t .joined v u
+
+module _ (n : ℕ) (t : List ℕ) where
+  -- the refusal number by the outcome of each test
+  pub refusal-by : {a b c d e : Bool} → ltb 1024 n ≡ a → not (eqb (length t) (n * n)) ≡ b → over 1 t ≡ c → looped (byTable n t) ≡ d
+      → oneWay (byTable n t) ≡ e → five a b c d e 0 ≡ refuseTable n t 0
+  unfolding refuseTable
+  refusal-by p q r s o = rw (p, q, r, s, o)
+
+  -- the later tests decide where the table is accepted
+  pub table-later : (later : ℕ) → refuseTable n t 0 ≡ 0 → refuseTable n t later ≡ later
+  unfolding refuseTable
+  table-later later = five-later (ltb 1024 n) (not (eqb (length t) (n * n))) (over 1 t) (looped (byTable n t)) (oneWay (byTable n t)) later
+
+  -- and the table decides where it is not
+  pub table-refused : (later : ℕ) → (refuseTable n t 0 ≡ 0 → ⊥) → refuseTable n t later ≡ refuseTable n t 0
+  unfolding refuseTable
+  table-refused later = five-fault (ltb 1024 n) (not (eqb (length t) (n * n))) (over 1 t) (looped (byTable n t)) (oneWay (byTable n t)) later
+
+  pub table-accepted : refuseTable n t 0 ≡ 0 → TableAccepted n t
+  unfolding refuseTable looped oneWay byTable onVertices
+  table-accepted h =
+      let p = five-pass (ltb 1024 n) (not (eqb (length t) (n * n))) (over 1 t) (looped (byTable n t)) (oneWay (byTable n t)) h in
+      record {
+        fits = record { small = ltb-false 1024 n (p .0); whole = eqb-true (length t) (n * n) (not-false _ (p .1)) };
+        bits = p .2;
+        no-loop = any-each n (λ u. byTable n t .joined u u) (p .3);
+        both-ways = λ u v hu hv. same _ _ (any-each n (differ (byTable n t) u) (any-each n (λ w. any n (differ (byTable n t) w)) (p .4) u hu) v hv);
+      }
+    where
+      same : (a b : Bool) → not (Bool·beq a b) ≡ false → a ≡ b
+      same true true e = refl
+      same true false e = absurd (true≢false e)
+      same false true e = absurd (true≢false e)
+      same false false e = refl
