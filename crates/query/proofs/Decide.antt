@@ -1,0 +1,237 @@
+-- Whether a set qualifies, from what each step of the set query gives.
+-- Assumes nothing.
+use Prim.Native.Nat.{ℕ, zero, suc, _+_, _*_, _≤_, _<_}
+use mathlib.Core.Path.{_≡_, refl, sym, ap, ap₂, _∙_, subst}
+use mathlib.Core.Bool.{Bool, true, false, _&&_, not, cond, true≢false}
+use mathlib.Core.List.{List, [], _∷_, _++_}
+use mathlib.Core.Logic.{_≢_, _⊎_, inl, inr}
+use native.Mathlib.Nat.{lt-suc-self, le-suc, le-trans}
+use native.Mathlib.Omega.{arith}
+use lib.ListN.{length, getD, length-append}
+use Rattle.model.specs.Below.{bit, count, passing}
+use Rattle.model.specs.Graph.{Graph, byTable}
+use Rattle.model.specs.Groups.{VertexSet, sizeOf, qualifies}
+use Rattle.model.specs.Meaning.{Clique}
+use Rattle.model.specs.Listing.{is}
+use Rattle.theory.specs.Search.{Loopless, Symmetric, common, joinedAll, Members, Candidates}
+use Rattle.model.specs.Calls.{byBytes}
+use Rattle.theory.proofs.basics.Tests.{trichotomy, count-le, fails}
+use Rattle.theory.proofs.basics.Counting.{count-sub, count-all, count-split}
+use Rattle.theory.proofs.graph.Meaning.{qualifies-iff}
+use Rattle.theory.proofs.graph.Cliques.{common-test}
+use Rattle.theory.proofs.basics.Passing.{passing-listed, passing-has, passing-rises, passing-candidates}
+use Rattle.theory.proofs.search.Members.{common-list}
+use Rattle.theory.proofs.search.Maximal.{qualifies-tally}
+use Rattle.graph.specs.Work.{WorkFits}
+use Rattle.graph.proofs.Work.{table-size}
+use Rattle.query.specs.declared.Settings.{Settings}
+use Rattle.query.specs.declared.Tally.{Tally}
+use Rattle.query.specs.Numbers.{settingsOf, isolatedOf, beatenOf, TallyOf}
+use Rattle.query.specs.Parts.{part, HoldsVertices, Written}
+use Rattle.query.specs.Search.{Lent, Posed, Tested}
+use Rattle.query.specs.Query.{pairwise, Tallies, Ready, Decided}
+use Rattle.query.proofs.Parts.{part-length, part-at}
+use Rattle.query.proofs.Members.{clique-test}
+use Rattle.query.proofs.Refusals.{QueryAccepted, query-accepted}
+
+-- ---- the numbers that pass a test
+
+passing-same : (n : ℕ) (p q : ℕ → Bool) → ((i : ℕ) → i < n → p i ≡ q i) → passing n p ≡ passing n q
+unfolding passing
+passing-same zero p q f = refl
+passing-same (suc n) p q f =
+    ap₂ (λ (l : List ℕ) (b : Bool). l ++ cond b (n ∷ []) []) (passing-same n p q (λ i h. f i (le-trans h (le-suc n)))) (f n (lt-suc-self n))
+
+passing-length : (n : ℕ) (p : ℕ → Bool) → length (passing n p) ≡ count n p
+unfolding passing count
+passing-length zero p = refl
+passing-length (suc n) p = go (p n) (passing-length n p)
+  where
+    go : (b : Bool) → length (passing n p) ≡ count n p → length (passing n p ++ cond b (n ∷ []) []) ≡ bit b + count n p
+    go true e = let l = length-append (passing n p) (n ∷ []) in omega arith
+    go false e = let l = length-append (passing n p) [] in omega arith
+
+-- the vertices that pass a set's test are its members
+passing-members : (G : Graph) (S : VertexSet) → Members G S (passing (G .size) S)
+passing-members G S =
+    record {
+      sound = λ i h. passing-listed S (G .size) (getD (passing (G .size) S) i 0) (i, h, refl);
+      complete = λ v h. passing-has S (G .size) v (h .0) (h .1);
+      once = λ i j hi hj e. go i j hi hj e (trichotomy i j);
+    }
+  where
+    go : (i j : ℕ) → i < length (passing (G .size) S) → j < length (passing (G .size) S) → getD (passing (G .size) S) i 0 ≡ getD (passing (G .size) S) j 0
+        → (i < j) ⊎ (i ≡ j) ⊎ (j < i) → i ≡ j
+    go i j hi hj e (inl l) = let r = passing-rises S (G .size) i j l hj in absurd (omega arith)
+    go i j hi hj e (inr (inl l)) = l
+    go i j hi hj e (inr (inr l)) = let r = passing-rises S (G .size) j i l hi in absurd (omega arith)
+
+size-is : (G : Graph) (S : VertexSet) → sizeOf G S ≡ count (G .size) S
+unfolding sizeOf
+size-is G S = refl
+
+-- a set and its common neighbours are no more than the vertices
+both-fit : (G : Graph) (S : VertexSet) → sizeOf G S + length (passing (G .size) (common G S)) ≤ G .size
+unfolding sizeOf
+both-fit G S =
+    let a = passing-length (G .size) (common G S) in
+    let b = count-sub (G .size) (common G S) (λ v. true && not (S v)) (λ v h e. ap not (common-test G S v h .0 e .beyond)) in
+    let k = count-split (G .size) (λ v. true) S in
+    let m = count-all (G .size) in
+    omega arith
+
+-- ---- one set query that is accepted
+
+module _ {n : ℕ} {t ranks bs w₀ : List ℕ} {s : Settings} (ready : Ready n t ranks bs w₀ s) where
+  abbrev graph : Graph
+  graph = byTable n t
+
+  abbrev members : VertexSet
+  members = byBytes bs
+
+  pub accepted : QueryAccepted n t s bs w₀
+  accepted = query-accepted n t s bs w₀ (ready .accepted)
+
+  loopless : Loopless graph
+  loopless u h = let z = table-size n t in accepted .table .no-loop u (omega arith)
+
+  symmetric : Symmetric graph
+  symmetric u v h l = let z = table-size n t in accepted .table .both-ways u v (omega arith) (omega arith)
+
+  pub work-fits : WorkFits n w₀
+  work-fits = record { small = accepted .table .fits .small; parts = let r = accepted .room in omega arith }
+
+  -- after the members were written
+  module _ {w₁ : List ℕ} {k : ℕ} (wrote : Written n n (is 1 bs) w₀ w₁ k) where
+    long : 8 * n ≤ length w₁
+    long = let r = accepted .room in let l = wrote .kept .length-kept in omega arith
+
+    long-members : length (part w₁ n k) ≡ k
+    long-members = let l = long in let f = wrote .few in part-length w₁ n k (omega arith)
+
+    has-members : Members graph members (part w₁ n k)
+    has-members =
+        subst (λ (us : List ℕ). Members graph members us) (sym (wrote .listed ∙ ap (λ (m : ℕ). passing m members) (sym (table-size n t)))) (passing-members graph members)
+
+    pub member-vertices : HoldsVertices n w₁ n k
+    member-vertices i h =
+        let l = long-members in
+        let a = has-members .sound i (omega arith) .0 in
+        let z = table-size n t in
+        let p = part-at w₁ n k i h in
+        omega arith
+
+    decided : {r : Bool} → r ≡ qualifies graph (settingsOf s) members → Decided n t bs w₀ w₁ (settingsOf s) r
+    decided e = record { answer = e; length-kept = wrote .kept .length-kept }
+
+    -- no member
+    pub decide-empty : k ≡ 0 → Decided n t bs w₀ w₁ (settingsOf s) false
+    decide-empty e =
+        decided
+        (sym (fails (qualifies graph (settingsOf s) members)
+        (λ q.
+        let v = qualifies-iff graph (settingsOf s) members .0 q .isolated-clique .clique .nonempty in
+        let m = has-members .complete (v .0) (v .1) .1 in
+        let l = long-members in
+        omega arith)))
+
+    module _ (some : k ≢ 0) where
+      not-empty : 0 < length (part w₁ n k)
+      not-empty = let l = long-members in omega arith
+
+      -- two members that are not joined
+      pub decide-apart : pairwise graph (part w₁ n k) ≡ false → Decided n t bs w₀ w₁ (settingsOf s) false
+      decide-apart e =
+          decided
+          (sym (fails (qualifies graph (settingsOf s) members)
+          (λ q.
+          true≢false
+          (sym
+          (clique-test graph symmetric members (part w₁ n k) has-members not-empty .1
+          (qualifies-iff graph (settingsOf s) members .0 q .isolated-clique .clique))
+          ∙ e))))
+
+      module _ (joined : pairwise graph (part w₁ n k) ≡ true) (y : Tally) (tallies : Tallies n ranks (part w₁ n k) y) where
+        clique : Clique graph members
+        clique = clique-test graph symmetric members (part w₁ n k) has-members not-empty .0 joined
+
+        tally : TallyOf graph members y
+        tally = tallies graph (table-size n t) (ready .degrees) members has-members
+
+        pub few-members : y .members ≤ 1024
+        few-members =
+            let a = tally .members in
+            let b = count-le (graph .size) members in
+            let c = size-is graph members in
+            let d = accepted .table .fits .small in
+            let z = table-size n t in
+            omega arith
+
+        by-tally : (vs : List ℕ) → Candidates graph members vs → qualifies graph (settingsOf s) members ≡ (isolatedOf s y && not (beatenOf graph s y vs))
+        by-tally vs A =
+            qualifies-tally graph loopless symmetric members clique vs A (y .members) (y .sum) (y .least) (y .largest) tally (settingsOf s)
+
+        -- not isolated
+        pub decide-open : isolatedOf s y ≡ false → Decided n t bs w₀ w₁ (settingsOf s) false
+        decide-open e =
+            decided
+            (sym (by-tally (passing (graph .size) (common graph members)) (passing-candidates graph members)
+            ∙ ap (λ (b : Bool). b && not (beatenOf graph s y (passing (graph .size) (common graph members)))) e))
+
+        module _ (isolated : isolatedOf s y ≡ true) {w₂ : List ℕ} {m : ℕ}
+            (found : Written (3 * n) n (λ v. joinedAll graph v (part w₁ n k)) w₁ w₂ m) where
+          candidates-are : part w₂ (3 * n) m ≡ passing (graph .size) (common graph members)
+          candidates-are =
+              found .listed
+              ∙ passing-same n (λ v. joinedAll graph v (part w₁ n k)) (common graph members)
+              (λ v h. sym (common-list graph members (part w₁ n k) has-members loopless v (let z = table-size n t in omega arith)))
+              ∙ ap (λ (u : ℕ). passing u (common graph members)) (sym (table-size n t))
+
+          long-candidates : length (part w₂ (3 * n) m) ≡ m
+          long-candidates = let l = long in let f = found .few in let e = found .kept .length-kept in part-length w₂ (3 * n) m (omega arith)
+
+          has-candidates : Candidates graph members (part w₂ (3 * n) m)
+          has-candidates = subst (λ (vs : List ℕ). Candidates graph members vs) (sym candidates-are) (passing-candidates graph members)
+
+          lent : Lent n t ranks w₂
+          lent =
+              record {
+                table = accepted .table .fits;
+                ranks-fit = ready .ranks-fit;
+                degrees = ready .degrees;
+                parts = let l = long in let f = found .kept .length-kept in omega arith;
+              }
+
+          posed : Posed n t w₂ s y m
+          posed =
+              record {
+                set = members;
+                factor = accepted .factor;
+                room =
+                    let a = tally .members in
+                    let b = both-fit graph members in
+                    let c = ap length candidates-are in
+                    let l = long-candidates in
+                    let z = table-size n t in
+                    omega arith;
+                loopless = loopless;
+                symmetric = symmetric;
+                clique = clique;
+                tally = tally;
+                candidates = has-candidates;
+              }
+
+          -- what `beaten` asks for
+          pub beaten-asks : Lent n t ranks w₂ × Posed n t w₂ s y m
+          beaten-asks = (lent, posed)
+
+          -- an isolated clique qualifies where it is not beaten
+          pub decide-beaten : {w₃ : List ℕ} {r : Bool} → Tested n t w₂ w₃ s y m r → Decided n t bs w₀ w₃ (settingsOf s) (not r)
+          decide-beaten {w₃} {r} tested =
+              record {
+                answer =
+                    ap not (tested .answer)
+                    ∙ ap (λ (b : Bool). b && not (beatenOf graph s y (part w₂ (3 * n) m))) (sym isolated)
+                    ∙ sym (by-tally (part w₂ (3 * n) m) has-candidates);
+                length-kept = tested .kept .length-kept ∙ found .kept .length-kept ∙ wrote .kept .length-kept;
+              }

@@ -1,0 +1,100 @@
+-- `query::common_neighbours` meets its contract: those of the passed vertices that are joined to every member stand in part 3.
+-- Assumes nothing.
+use Prim.Native.Nat.{_+_, _-_, _*_, _≤_}
+use mathlib.Core.Path.{sym, ap, _∙_}
+use mathlib.Core.Logic.{⊎-elim}
+use native.Mathlib.Omega.{arith}
+use Rattle.model.specs.Graph.{byTable}
+use Rattle.theory.specs.Search.{joinedAll}
+use Rattle.query.specs.Parts.{part}
+use Rattle.query.proofs.Parts.{same-members}
+use Rattle.query.proofs.Filled.{Filled, filled-same, filled-none, filled-hit, filled-miss, filled-all}
+use Rattle.query.proofs.common_neighbours.Statement.{statement}
+use Rattle.query.proofs.common_neighbours.Tie as tie
+
+abbrev Inv-loop : tie.InvT-loop
+Inv-loop table n work₀ k end m₀ v₀ work m v = (v ≤ n) × Filled (3 * n) n (λ u. joinedAll (byTable n table) u (part work₀ n k)) work₀ work v m
+
+abbrev μ-loop : tie.MeasureT-loop
+μ-loop table n work₀ k end m₀ v₀ work m v = n - v
+
+add-end : tie.Need-add-end Inv-loop μ-loop
+add-end c = omega arith
+
+loop-holds : tie.Need-loop-holds Inv-loop μ-loop
+loop-holds c = (omega arith, filled-none _ _ _ _)
+
+joined-to-all-requires : tie.Need-joined-to-all-requires Inv-loop μ-loop
+joined-to-all-requires c κs =
+    let b = c .before .before .before .before .before in
+    let f = c .before .before .loop .inv .1 .kept in
+    (b .pre .0, omega arith, omega arith, omega arith, λ i h. let k = f .below (b .args .n + i) (omega arith) in let l = b .pre .3 i (omega arith) in omega arith)
+
+cast-work : tie.Need-cast-work Inv-loop μ-loop
+cast-work c = omega arith
+
+mul-work : tie.Need-mul-work Inv-loop μ-loop
+mul-work c = omega arith
+
+add-work : tie.Need-add-work Inv-loop μ-loop
+add-work c = omega arith
+
+mul-work-2 : tie.Need-mul-work-2 Inv-loop μ-loop
+mul-work-2 c = omega arith
+
+slice-write-work : tie.Need-slice-write-work Inv-loop μ-loop
+slice-write-work c = omega arith
+
+add-m : tie.Need-add-m Inv-loop μ-loop
+add-m c = omega arith
+
+add-v : tie.Need-add-v Inv-loop μ-loop
+add-v c = omega arith
+
+loop-less : tie.Need-loop-less Inv-loop μ-loop
+loop-less c = omega arith
+
+loop-again : tie.Need-loop-again Inv-loop μ-loop
+loop-again c =
+    let b = c .before .before .before .before .before .before .before in
+    let l = c .before .before .before .before .loop in
+    let same = same-members (b .args .n) (b .args .k) (b .args .work .now) (l .work) (l .inv .1 .kept) (omega arith) in (
+      omega arith,
+      ⊎-elim
+          (λ w.
+          filled-same (w .1) (w .2)
+          (filled-hit _ _ _ _ (l .inv .1) (c .before .before .before .loop-test .taken) (omega arith)
+          (ap (joinedAll (byTable (b .args .n) (b .args .table .now)) (l .v)) (sym same) ∙ sym (c .before .joined-to-all .ensures) ∙ w .0 .taken)))
+          (λ w.
+          filled-same (w .1) (w .2)
+          (filled-miss _ _ _ _ (l .inv .1)
+          (ap (joinedAll (byTable (b .args .n) (b .args .table .now)) (l .v)) (sym same) ∙ sym (c .before .joined-to-all .ensures) ∙ w .0 .left)))
+          (c .if1 .came),
+    )
+
+same-length : tie.Need-same-length Inv-loop μ-loop
+same-length c = c .before .loop .inv .1 .kept .length-kept
+
+returns : tie.Need-returns Inv-loop μ-loop
+returns c = filled-all _ _ _ _ (c .before .loop .inv .1) (c .before .loop .inv .0) (c .loop-test .left)
+
+pub common-neighbours-spec : {M : Type 1} → statement M
+common-neighbours-spec =
+    tie.close
+    (tie.spec
+    Inv-loop
+    μ-loop
+    add-end
+    loop-holds
+    joined-to-all-requires
+    cast-work
+    mul-work
+    add-work
+    mul-work-2
+    slice-write-work
+    add-m
+    add-v
+    loop-less
+    loop-again
+    same-length
+    returns)

@@ -1,0 +1,94 @@
+-- `query::pairwise_joined` meets its contract: each member that was passed is joined to all before it.
+-- Assumes nothing.
+use Prim.Native.Nat.{_+_, _-_, _≤_}
+use mathlib.Core.Path.{_≡_, sym, _∙_}
+use mathlib.Core.Bool.{true}
+use native.Mathlib.Omega.{arith}
+use borrow.Author.Tests.{not-true, not-false}
+use Rattle.model.specs.Below.{all}
+use Rattle.model.specs.Graph.{byTable}
+use Rattle.query.specs.Parts.{part}
+use Rattle.query.proofs.Members.{joins-before, pairs-none, pairs-more, pairs-apart, pairs-all}
+use Rattle.query.proofs.pairwise_joined.Statement.{statement}
+use Rattle.query.proofs.pairwise_joined.Tie as tie
+
+abbrev Inv-loop : tie.InvT-loop
+Inv-loop table n work k i₀ i = (i ≤ k) × (all i (joins-before (byTable n table) (part work n k)) ≡ true)
+
+abbrev μ-loop : tie.MeasureT-loop
+μ-loop table n work k i₀ i = k - i
+
+loop-holds : tie.Need-loop-holds Inv-loop μ-loop
+loop-holds c =
+    let start = c .before .before in
+    (omega arith, pairs-none _ (start .args .work .now) (start .args .n) (start .args .k) (omega arith))
+
+add-end : tie.Need-add-end Inv-loop μ-loop
+add-end c = omega arith
+
+mul-v : tie.Need-mul-v Inv-loop μ-loop
+mul-v c = omega arith
+
+shared-slice-read-v : tie.Need-shared-slice-read-v Inv-loop μ-loop
+shared-slice-read-v c = omega arith
+
+cast-v : tie.Need-cast-v Inv-loop μ-loop
+cast-v c =
+    let turn = c .before in
+    let start = turn .before .before .before .before in
+    omega (arith, c .shared-slice-known3 .given (start .args .n + turn .before .loop .i))
+
+joined-to-all-requires : tie.Need-joined-to-all-requires Inv-loop μ-loop
+joined-to-all-requires c κs =
+    let turn = c .before in
+    let start = turn .before .before .before .before in
+    let vertex = start .pre .3 in
+    (start .pre .0, vertex (turn .before .loop .i) (omega arith), omega arith, omega arith, λ j h. vertex j (omega arith))
+
+returns : tie.Need-returns Inv-loop μ-loop
+returns c =
+    let turn = c .before .before .before in
+    let start = turn .before .before .before .before in
+    sym
+    (pairs-apart _ (start .args .work .now) (start .args .n) (start .args .k) (omega arith) (turn .before .loop .i) (turn .loop-test .taken)
+    (sym (c .before .joined-to-all .ensures) ∙ not-true _ (c .if1 .taken)))
+
+add-i : tie.Need-add-i Inv-loop μ-loop
+add-i c = omega arith
+
+loop-less : tie.Need-loop-less Inv-loop μ-loop
+loop-less c = omega arith
+
+loop-again : tie.Need-loop-again Inv-loop μ-loop
+loop-again c =
+    let turn = c .before .before .before in
+    let start = turn .before .before .before .before in
+    let more =
+    pairs-more _ (start .args .work .now) (start .args .n) (start .args .k) (omega arith) (turn .before .loop .i) (turn .loop-test .taken)
+    (turn .before .loop .inv .1) (sym (c .before .joined-to-all .ensures) ∙ not-false _ (c .if1 .left))
+    in
+    (omega arith, more)
+
+returns-2 : tie.Need-returns-2 Inv-loop μ-loop
+returns-2 c =
+    let start = c .before .before .before .before in
+    let l = c .before .loop in
+    sym (pairs-all _ (start .args .work .now) (start .args .n) (start .args .k) (omega arith) (l .i) (l .inv .0) (c .loop-test .left) (l .inv .1))
+
+pub pairwise-joined-spec : {M : Type 1} → statement M
+pairwise-joined-spec =
+    tie.close
+    (tie.spec
+    Inv-loop
+    μ-loop
+    loop-holds
+    add-end
+    mul-v
+    shared-slice-read-v
+    cast-v
+    joined-to-all-requires
+    returns
+    add-i
+    loop-less
+    loop-again
+    returns-2)
