@@ -1,0 +1,159 @@
+-- From line to line, and at the end, to the definition's reply. Assumes nothing.
+use Prim.Native.Nat.{ℕ, suc, _+_, _*_, _-_, _≤_, _<_}
+use mathlib.Core.Path.{_≡_, refl, sym, ap, subst, _∙_}
+use mathlib.Core.Bool.{true, false}
+use mathlib.Core.List.{List, [], _∷_, _++_}
+use native.Mathlib.Nat.{mul-le-mul}
+use native.Mathlib.Numerals.{add-one}
+use native.Mathlib.Omega.{arith}
+use lib.ListN.{length, take, drop, replicate, take-append-drop, drop-of-length-le}
+use lib.Seq.{drop-drop}
+use borrow.Author.Tests.{eq-eqb, ne-eqb}
+use Rattle.model.specs.Text.{Step, bad, next, lineStep, linesOf, TextReply, refusedAt, readFrom, readText}
+use Rattle.dimacs.specs.Field.{Found}
+use Rattle.dimacs.specs.Line.{readingOf, start, Fit, Stepped}
+use Rattle.dimacs.specs.Reply.{Replies}
+use Rattle.dimacs.specs.declared.line.State.{State}
+use Rattle.dimacs.specs.declared.line.Line.the-variants.{Bad, Next}
+use Rattle.dimacs.specs.declared.TextAnswer.{TextAnswer}
+use Rattle.dimacs.proofs.Splits.{lines-at}
+
+-- ---- the replies
+
+pub replies-as : {x y : TextReply} {t : List ℕ} {a : TextAnswer} → Replies x t a → x ≡ y → Replies y t a
+replies-as {t = t} {a = a} p e = subst (λ (z : TextReply). Replies z t a) e p
+
+-- a refusal whose claimed bytes were cleared
+pub refusal-replies : (k line : ℕ) (s : State) (t t' : List ℕ) → t' ≡ replicate (s .vertices * s .vertices) 0 ++ drop (s .vertices * s .vertices) t →
+    Replies (refusedAt k line (readingOf s t) t) t' (record { refusal = k; vertices = 0; edges = 0; line = line })
+unfolding refusedAt
+refusal-replies k line s t t' e = record { refusal = refl; vertices = refl; edges = refl; line = refl; table = e }
+
+-- ---- the end of the text
+
+module _ (line : ℕ) (s : State) (t : List ℕ) where
+  pub end-33 : s .passed ≡ false → refusedAt 33 line (readingOf s t) t ≡ readFrom line (readingOf s t) [] t
+  unfolding readFrom
+  end-33 e = rw e
+
+  pub end-39 : s .passed ≡ true → (s .edges ≡ s .stated → ⊥) → refusedAt 39 line (readingOf s t) t ≡ readFrom line (readingOf s t) [] t
+  unfolding readFrom
+  end-39 e f = rw (e, ne-eqb (s .edges) (s .stated) f)
+
+  -- accepted: the slice is the table and the rest
+  pub end-accepted : s .passed ≡ true → s .edges ≡ s .stated →
+      Replies (readFrom line (readingOf s t) [] t) t (record { refusal = 0; vertices = s .vertices; edges = s .stated; line = 0 })
+  unfolding readFrom
+  end-accepted e f = replies-as {x = accepted} whole (rw (e, eq-eqb (s .edges) (s .stated) f))
+    where
+      accepted : TextReply
+      accepted = record {
+        refused = 0;
+        vertices = s .vertices;
+        stated = s .stated;
+        line = 0;
+        slice = take (s .vertices * s .vertices) t ++ drop (s .vertices * s .vertices) t;
+      }
+
+      whole : Replies accepted t (record { refusal = 0; vertices = s .vertices; edges = s .stated; line = 0 })
+      whole = record { refusal = refl; vertices = refl; edges = refl; line = refl; table = sym (take-append-drop (s .vertices * s .vertices) t) }
+
+-- ---- from line to line
+
+-- what is left of the text from a place on decides the rest: the first N × N bytes are the definition's table, and the rest is untouched
+pub record SoFar (text t₀ t : List ℕ) (s : State) (at line : ℕ) : Type 0 where
+  pub fit : Fit s (length t₀)
+  pub size : length t ≡ length t₀
+  pub rest : drop (s .vertices * s .vertices) t ≡ drop (s .vertices * s .vertices) t₀
+  pub counted : s .edges < line
+  pub lines : line ≤ at + 1
+  pub within : at ≤ length text + 1
+  pub reads : readFrom line (readingOf s t) (linesOf (drop at text)) t₀ ≡ readText text t₀
+
+-- the state fits the slice as it is now
+pub so-fit : {text t₀ t : List ℕ} {s : State} {at line : ℕ} → SoFar text t₀ t s at line → Fit s (length t)
+so-fit {s = s} f = subst (λ (n : ℕ). Fit s n) (sym (f .size)) (f .fit)
+
+-- before the first line
+pub so-none : (text t : List ℕ) → SoFar text t t start 0 1
+unfolding readText
+so-none text t = record {
+  fit = record { small = omega arith; area = omega arith; stated = omega arith; fresh = λ q. refl };
+  size = refl;
+  rest = refl;
+  counted = omega arith;
+  lines = omega arith;
+  within = omega arith;
+  reads = refl;
+}
+
+-- the bytes past a larger table are untouched too
+rest-more : (n n' : ℕ) (t t₀ : List ℕ) → n ≤ n' → drop n t ≡ drop n t₀ → drop n' t ≡ drop n' t₀
+rest-more n n' t t₀ h e =
+    let w : n + (n' - n) ≡ n' = omega arith in
+    rw w at (sym (drop-drop (n' - n) n t) ∙ ap (λ (l : List ℕ). drop (n' - n) l) e ∙ drop-drop (n' - n) n t₀)
+
+-- a refusal speaks only of the bytes past the table
+refused-same : (k line : ℕ) (s : State) (t t' x y : List ℕ) → drop (s .vertices * s .vertices) x ≡ drop (s .vertices * s .vertices) y →
+    refusedAt k line (readingOf s t) x ≡ refusedAt k line (readingOf s t') y
+unfolding refusedAt
+refused-same k line s t t' x y e =
+    ap (λ (l : List ℕ). record { refused = k; vertices = 0; stated = 0; line = line; slice = replicate (s .vertices * s .vertices) 0 ++ l }) e
+
+module _ {text t₀ t : List ℕ} {s : State} {at line : ℕ} (f : SoFar text t₀ t s at line) where
+  -- the end of the text
+  pub so-ended : {t' : List ℕ} {a : TextAnswer} → length text ≤ at → Replies (readFrom line (readingOf s t) [] t) t' a → Replies (readText text t₀) t' a
+  unfolding readFrom refusedAt linesOf
+  so-ended h p =
+      let none : drop at text ≡ [] = drop-of-length-le text h in
+      replies-as p (same ∙ ap (λ (l : List ℕ). readFrom line (readingOf s t) (linesOf l) t₀) (sym none) ∙ f .reads)
+    where
+      same : readFrom line (readingOf s t) [] t ≡ readFrom line (readingOf s t) [] t₀
+      same = rw (f .rest)
+
+  module _ (h : at < length text) {end : ℕ} (d : Found text at 10 end) where
+    -- the line up to the next byte 10
+    here : List ℕ
+    here = take (end - at) (drop at text)
+
+    -- the definition reads it next
+    reads-here : readFrom line (readingOf s t) (here ∷ linesOf (drop (end + 1) text)) t₀ ≡ readText text t₀
+    unfolding here
+    reads-here = ap (λ (ls : List (List ℕ)). readFrom line (readingOf s t) ls t₀) (sym (lines-at text at end d h)) ∙ f .reads
+
+    -- it is at fault
+    pub so-faulty : {k : ℕ} {t' t'' : List ℕ} {a : TextAnswer} → Stepped (lineStep (length t) (readingOf s t) (take (end - at) (drop at text))) s t t' (Bad k) →
+        Replies (refusedAt k line (readingOf s t') t') t'' a → Replies (readText text t₀) t'' a
+    unfolding here readFrom
+    so-faulty {k} {t'} w p = replies-as p (refused-same k line s t' t t' t₀ past ∙ stops ∙ reads-here)
+      where
+        past : drop (s .vertices * s .vertices) t' ≡ drop (s .vertices * s .vertices) t₀
+        past = ap (λ (l : List ℕ). drop (s .vertices * s .vertices) l) (w .kept) ∙ f .rest
+
+        step : bad k ≡ lineStep (length t₀) (readingOf s t) here
+        step = w .step ∙ ap (λ (n : ℕ). lineStep n (readingOf s t) here) (f .size)
+
+        stops : refusedAt k line (readingOf s t) t₀ ≡ readFrom line (readingOf s t) (here ∷ linesOf (drop (end + 1) text)) t₀
+        stops = ap (λ (x : Step). elim x [ bad k ↦ refusedAt k line (readingOf s t) t₀ | next r ↦ readFrom (suc line) r (linesOf (drop (end + 1) text)) t₀ ]) step
+
+    -- the reading goes on after it
+    pub so-next : {t' : List ℕ} {s' : State} → Stepped (lineStep (length t) (readingOf s t) (take (end - at) (drop at text))) s t t' (Next s') →
+        length t' ≡ length t → SoFar text t₀ t' s' (end + 1) (line + 1)
+    unfolding here readFrom
+    so-next {t'} {s'} w l =
+        let k = w .kept in
+        record {
+          fit = subst (λ (n : ℕ). Fit s' n) (f .size) (k .fit);
+          size = l ∙ f .size;
+          rest = k .rest ∙ rest-more (s .vertices * s .vertices) (s' .vertices * s' .vertices) t t₀ (mul-le-mul (k .grows) (k .grows)) (f .rest);
+          counted = omega (arith, k .counted, f .counted);
+          lines = omega (arith, f .lines, d .after);
+          within = omega (arith, d .within);
+          reads = ap (λ (n : ℕ). readFrom n (readingOf s' t') (linesOf (drop (end + 1) text)) t₀) (add-one line) ∙ goes ∙ reads-here;
+        }
+      where
+        step : next (readingOf s' t') ≡ lineStep (length t₀) (readingOf s t) here
+        step = w .step ∙ ap (λ (n : ℕ). lineStep n (readingOf s t) here) (f .size)
+
+        goes : readFrom (suc line) (readingOf s' t') (linesOf (drop (end + 1) text)) t₀ ≡ readFrom line (readingOf s t) (here ∷ linesOf (drop (end + 1) text)) t₀
+        goes = ap (λ (x : Step). elim x [ bad k ↦ refusedAt k line (readingOf s t) t₀ | next r ↦ readFrom (suc line) r (linesOf (drop (end + 1) text)) t₀ ]) step

@@ -1,0 +1,24 @@
+-- `dimacs::refuse` meets its contract. Assumes nothing.
+use native.Mathlib.Omega.{arith}
+use borrow.Author.Needs.{needs}
+use Rattle.dimacs.proofs.Cells.{area-fits}
+use Rattle.dimacs.proofs.Replies.{refusal-replies}
+use Rattle.dimacs.proofs.refuse.Statement.{statement}
+use Rattle.dimacs.proofs.refuse.Tie as tie
+
+mul-clear : tie.Need-mul-clear
+mul-clear c = omega (arith, area-fits (c .before .before .args .s .vertices) (c .before .before .pre .small))
+
+clear-requires : tie.Need-clear-requires
+clear-requires c κs = omega (arith, c .before .before .pre .area)
+
+same-length : tie.Need-same-length
+same-length c = search needs
+
+returns : tie.Need-returns
+returns c =
+    let g = c .before .before .before .before .before .args in
+    refusal-replies (g .number) (g .line) (g .s) (g .table .now) (c .before .before .clear .last .0) (c .before .before .clear .ensures)
+
+pub refuse-spec : {M : Type 1} → statement M
+refuse-spec = tie.close (tie.spec mul-clear clear-requires same-length returns)

@@ -1,0 +1,86 @@
+// The text reader of document 01: an edge text becomes the table of a graph, line by line, in place.
+ghost use mathlib.Core.List.{[]};
+ghost use lib.ListN.{length};
+ghost use Rattle.model.specs.Text.{refusedAt, readFrom};
+ghost use Rattle.dimacs.specs.Line.{readingOf, Fit};
+ghost use Rattle.dimacs.specs.Reply.{Replies, ReadsAs};
+
+pub mod field;
+mod line;
+mod scan;
+mod table;
+
+use line::Line;
+use line::State;
+
+// What a call answers: 0, N, M and 0, or the refusal's number, zeros and the line.
+#[repr(C)]
+pub struct TextAnswer {
+    pub refusal: u32,
+    pub vertices: u32,
+    pub edges: u32,
+    pub line: usize,
+}
+
+// Refused: the bytes that a p line claimed become 0, and where none passed there are none.
+fn refuse(table: &mut [u8], s: State, number: u32, line: usize) -> TextAnswer
+    requires { ⌜ Fit s (length (now table)) ⌝ }
+    ensures { λ r. ⌜ Replies (refusedAt number line (readingOf s (now (table .entry))) (now (table .entry))) (now (table .exit)) r ⌝ }
+{
+    let n = s.vertices;
+    table::clear(table, n * n);
+    TextAnswer {
+        refusal: number,
+        vertices: 0,
+        edges: 0,
+        line,
+    }
+}
+
+// The end of the text: 33 no p line, 39 M differs.
+fn finish(table: &mut [u8], s: State, line: usize) -> TextAnswer
+    requires { ⌜ Fit s (length (now table)) ⌝ }
+    ensures { λ r. ⌜ Replies (readFrom line (readingOf s (now (table .entry))) [] (now (table .entry))) (now (table .exit)) r ⌝ }
+{
+    if !s.passed {
+        return refuse(table, s, 33, line);
+    }
+    if s.edges != s.stated {
+        return refuse(table, s, 39, line);
+    }
+    TextAnswer {
+        refusal: 0,
+        vertices: s.vertices as u32,
+        edges: s.stated as u32,
+        line: 0,
+    }
+}
+
+// Reads a text into the table. The answer, and every byte of the table slice afterwards, are what `readText` of document 01 gives
+// for the text and the slice. Lines are read once, from the first to the last, and nothing is copied.
+pub fn read_text(text: &[u8], table: &mut [u8]) -> TextAnswer
+    ensures { λ r. ⌜ ReadsAs (now (text .entry)) (now (table .entry)) (now (table .exit)) r ⌝ }
+{
+    let mut s = State {
+        passed: false,
+        vertices: 0,
+        stated: 0,
+        edges: 0,
+    };
+    let mut at: usize = 0;
+    let mut line: usize = 1;
+    while at < text.len() {
+        let end = scan::find(text, at, b'\n');
+        match line::read_line(&text[at..end], table, s) {
+            Line::Bad(number) => {
+                return refuse(table, s, number, line);
+            }
+            Line::Next(r) => {
+                s = r;
+            }
+        }
+        at = end + 1;
+        line += 1;
+    }
+    finish(table, s, line)
+}
