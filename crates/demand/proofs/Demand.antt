@@ -1,0 +1,172 @@
+-- Demand 3 holds of every list of calls of `page::page`.
+-- Assumes nothing.
+use Prim.Native.Nat.{ℕ, zero, suc}
+use mathlib.Core.Path.{_≡_, refl, sym, ap, _∙_, subst}
+use mathlib.Core.Logic.{_≢_}
+use mathlib.Core.List.{List, [], _∷_, map}
+use native.Mathlib.Omega.{arith}
+use lib.ListN.{length}
+use contract.Lifetimes.{Lfts}
+use borrow.Fn.Kinds.{Dens, resT, endedOf}
+use denote.Triple.Clauses.{AtExit}
+use Rattle.model.specs.Graph.{byTable}
+use Rattle.model.specs.Groups.{Settings, VertexSet}
+use Rattle.model.specs.Meaning.{Qualifies}
+use Rattle.model.specs.Walk.{Position, Page, fresh}
+use Rattle.model.specs.Listing.{rules}
+use Rattle.model.specs.Calls.{PageReply, refuseTable, refusePage, replyOf, pageCall}
+use Rattle.model.specs.Demand as model
+use Rattle.model.specs.Demand.{joinedOutput, SomeFinished, Demand3}
+use Rattle.theory.proofs.calls.Bounds.{page-bounds}
+use Rattle.theory.proofs.calls.Pages.{call-progress, demand3}
+use Rattle.page.specs.Answer.{Replies}
+use Rattle.page.specs.Call.{given}
+use Rattle.page.proofs.page.Reads as page
+use Rattle.page.proofs.page.Kinds as page-kinds
+use Rattle.demand.specs.Demand.{Call, Promised, reported, Calls, EachCall, Every, PageDemand, Demanded}
+
+-- ---- a call of `page::page` and its reply in document 01
+
+-- what the call brought beside the position
+abbrev brought : Call → model.Call
+brought c =
+    record {
+      size = c .size;
+      table = c .table;
+      settings = given (c .notion) (c .kind) (c .factor);
+      budget = c .budget;
+      output = c .output;
+      work = length (c .work);
+    }
+
+-- a call that keeps its promise reports the reply
+reported-is : (c : Call) → Promised c → reported c ≡ model.replyTo (brought c) (c .position)
+reported-is c r i =
+    record {
+      refused = r .replies .refusal i;
+      stop = r .replies .stop i;
+      groups = r .replies .groups i;
+      used = r .replies .used i;
+      steps = r .replies .steps i;
+      wanted = r .replies .wanted i;
+      position = r .replies .position i;
+      output = r .replies .output i;
+    }
+
+module _ (t : List ℕ) (s : Settings) where
+  -- what the calls of a list reported are the replies of document 01's page calls, one after the other
+  replies-are : (p : Position) (cs : List Call) → Calls t s p cs → map reported cs ≡ model.replies (map brought cs) p
+  unfolding model.replies
+  replies-are p [] h = refl
+  replies-are p (c ∷ cs) h =
+      let e : reported c ≡ model.replyTo (brought c) p = reported-is c (h .0 .promised) ∙ ap (model.replyTo (brought c)) (h .0 .handed) in
+      let f : c .position-left ≡ model.replyTo (brought c) p .position = ap (λ (r : PageReply). r .position) e in
+      λ i. e i ∷ (replies-are (c .position-left) cs (h .1) ∙ ap (model.replies (map brought cs)) f) i
+
+  agree-are : (p : Position) (cs : List Call) → Calls t s p cs → model.Agree t s (map brought cs) p
+  agree-are p [] h = tt
+  agree-are p (c ∷ cs) h =
+      let e : reported c ≡ model.replyTo (brought c) p = reported-is c (h .0 .promised) ∙ ap (model.replyTo (brought c)) (h .0 .handed) in
+      let f : c .position-left ≡ model.replyTo (brought c) p .position = ap (λ (r : PageReply). r .position) e in (
+        λ z. h .0 .agrees (ap (λ (r : PageReply). r .refused) e ∙ z),
+        subst (λ (q : Position). model.Agree t s (map brought cs) q) f (agree-are (c .position-left) cs (h .1)),
+      )
+
+-- ---- each call by itself
+
+-- a refused reply did nothing, and left position and output as they were
+refused-still : (k : ℕ) (r : Page) (p : Position) (out : List ℕ) → replyOf k r p out .refused ≢ 0
+    → (replyOf k r p out .used ≡ 0) × (replyOf k r p out .groups ≡ 0) × (replyOf k r p out .steps ≡ 0) × (replyOf k r p out .position ≡ p) × (replyOf k r p out .output ≡ out)
+unfolding replyOf
+refused-still zero r p out d = absurd (d refl)
+refused-still (suc k) r p out d = (refl, refl, refl, refl, refl)
+
+-- whatever a call brings that keeps its promise
+pub each-call : (c : Call) → Promised c → EachCall c
+unfolding pageCall
+each-call c h =
+    record {
+      within-budget = let b = page-bounds (c .size) (c .table) s (c .budget) (c .position) (c .output) (length (c .work)) .steps-within in let e = r .steps in omega arith;
+      makes-step = λ z f b l.
+          let m = call-progress (c .size) (c .table) s (c .budget) (c .position) (c .output) (length (c .work)) (sym (r .refusal) ∙ z) f b l in
+          let e = r .steps in
+          omega arith;
+      refused-idle = λ d.
+          let i = refused-still (refusePage (c .size) (c .table) s (c .position) (length (c .work))) _ (c .position) (c .output) (λ z. d (r .refusal ∙ z)) in
+          (r .used ∙ i .0, r .groups ∙ i .1, r .steps ∙ i .2, r .position ∙ i .3, r .output ∙ i .4, h .work-kept d);
+    }
+  where
+    s : Settings
+    s = given (c .notion) (c .kind) (c .factor)
+
+    r : Replies (c .answer) (c .position-left) (c .output-left) (pageCall (c .size) (c .table) s (c .budget) (c .position) (c .output) (length (c .work)))
+    r = h .replies
+
+every-call : (t : List ℕ) (s : Settings) (p : Position) (cs : List Call) → Calls t s p cs → Every cs
+every-call t s p [] h = tt
+every-call t s p (c ∷ cs) h = (each-call c (h .0 .promised), every-call t s (c .position-left) cs (h .1))
+
+-- ---- the whole list
+
+-- Demand 3, of any list of calls that keep the promise of `page::page`.
+pub demand : Demanded
+demand n t s valid cs h =
+    let d = demand3 n t s valid (map brought cs) (agree-are t s (fresh n) cs h) in
+    let e = sym (replies-are t s (fresh n) cs h) in
+    record {
+      done = subst (Demand3 (rules (byTable n t) s) n) e (d .done);
+      none-qualifies =
+          subst (λ (rs : List PageReply). SomeFinished rs → joinedOutput rs ≡ [] → (S : VertexSet) → Qualifies (byTable n t) s S → ⊥) e (d .none-qualifies);
+      each = every-call t s (fresh n) cs h;
+    }
+
+-- ---- the compiled function
+
+-- A call of the compiled function, in the words of the contract that the checker itself reads from the source of `page::page` and proves: any arguments,
+-- answer and memory at exit that this contract allows. The function asks for nothing, so any arguments may be given.
+pub record Compiled : Type 0 where
+  pub lifetimes : Lfts 4
+  pub arguments : Dens lifetimes page-kinds.ps
+  pub answer : resT page-kinds.r lifetimes .Denot
+  pub at-exit : AtExit (endedOf 4 page-kinds.ps page-kinds.r) lifetimes
+  pub promised : page.Post lifetimes arguments answer at-exit
+
+-- its values: table, position, output, work, n, notion, kind, c, budget
+abbrev pub callOf : Compiled → Call
+callOf k =
+    let a = k .arguments in
+    record {
+      table = a .0 .now;
+      position = a .1 .0 .now;
+      output = a .1 .1 .0 .now;
+      work = a .1 .1 .1 .0 .now;
+      size = a .1 .1 .1 .1 .0;
+      notion = a .1 .1 .1 .1 .1 .0;
+      kind = a .1 .1 .1 .1 .1 .1 .0;
+      factor = a .1 .1 .1 .1 .1 .1 .1 .0;
+      budget = a .1 .1 .1 .1 .1 .1 .1 .1 .0;
+      answer = k .answer;
+      position-left = k .at-exit .1 .0 .now;
+      output-left = k .at-exit .1 .1 .0 .now;
+      work-left = k .at-exit .1 .1 .1 .0 .now;
+    }
+
+-- the function's own contract is what `Promised` asks of a call: nothing is restated
+pub promised : (k : Compiled) → Promised (callOf k)
+promised k = k .promised
+
+-- the first call is handed p, each later one the position as the call before it left it; and every accepted call brings the table t and the settings s
+abbrev pub Chained : List ℕ → Settings → Position → List Compiled → Type 0
+Chained t s p [] = Unit {0}
+Chained t s p (k ∷ ks) =
+    (callOf k .position ≡ p)
+    × (callOf k .answer .refusal ≡ 0 → (callOf k .table ≡ t) × (given (callOf k .notion) (callOf k .kind) (callOf k .factor) ≡ s))
+    × Chained t s (callOf k .position-left) ks
+
+chained-calls : (t : List ℕ) (s : Settings) (p : Position) (ks : List Compiled) → Chained t s p ks → Calls t s p (map callOf ks)
+chained-calls t s p [] h = tt
+chained-calls t s p (k ∷ ks) h = (record { promised = promised k; handed = h .0; agrees = h .1 }, chained-calls t s (callOf k .position-left) ks (h .2))
+
+-- Demand 3 of the compiled `page::page`: of every graph's table, one that is not refused, all settings and any list of its calls that begins at fresh.
+pub compiled-demand : (n : ℕ) (t : List ℕ) (s : Settings) → refuseTable n t 0 ≡ 0 → (ks : List Compiled) → Chained t s (fresh n) ks → PageDemand n t s (map callOf ks)
+compiled-demand n t s valid ks h = demand n t s valid (map callOf ks) (chained-calls t s (fresh n) ks h)

@@ -1,0 +1,3 @@
+-- The proofs of demands 2 and 3.
+pub mod Demand
+pub mod Membership

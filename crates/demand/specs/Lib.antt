@@ -1,0 +1,3 @@
+-- What demands 2 and 3 say of the functions of crates page, query and dimacs.
+pub mod Demand
+pub mod Membership

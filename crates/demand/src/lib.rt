@@ -1,0 +1,1 @@
+// No function: demands 2 and 3 of document 01 as theorems over the contracts of the page call, the set query and the text reader.

@@ -1,0 +1,13 @@
+-- Where a page's rounds begin.
+-- Assumes nothing.
+use Prim.Native.Nat.{ℕ, _≤_}
+use mathlib.Core.List.{List}
+use Rattle.model.specs.Walk.{Position}
+use Rattle.query.specs.declared.Settings.{Settings}
+use Rattle.page.specs.declared.State.{State}
+use Rattle.page.specs.Walk.{Walking}
+
+-- the state and the work slice stand for a position that passes every test, at a factor that is not refused
+pub record Begins (n : ℕ) (t ranks : List ℕ) (p : Position) (w : List ℕ) (q : Settings) (s : State) : Type 0 where
+  pub walking : Walking n (q .factor) t ranks p w s
+  pub factor : q .factor ≤ 1024

@@ -1,0 +1,134 @@
+// The page call: the walk in steps, its groups into the output.
+mod emit;
+mod group;
+mod position;
+mod qualify;
+mod rounds;
+mod walk;
+
+ghost use mathlib.Core.Path.{_≡_};
+ghost use lib.ListN.{length};
+ghost use Rattle.model.specs.Calls.{refuseTable, refuseSettings, refuseLengths};
+ghost use Rattle.query.specs.Numbers.{settingsOf};
+ghost use Rattle.page.specs.Answer.{stopNumber, refused};
+ghost use Rattle.page.specs.Call.{given, PageCalled};
+use crate::position::position_refusal;
+use crate::rounds::run;
+use crate::walk::rebuild;
+use graph::prepare;
+use graph::table_refusal;
+use query::Settings;
+use query::settings_refusal;
+
+// What a page keeps beside the position and the work slice: how many ranks are decided, how many of them are taken, how many neighbours of the
+// pivot are left, the sum of the taken vertices' degrees, and whether two taken ranks are not adjacent.
+pub struct State {
+    pub decided: usize,
+    pub taken: usize,
+    pub left: usize,
+    pub sum: usize,
+    pub apart: bool,
+}
+
+// Why a page stopped.
+pub enum Stop {
+    Finished,
+    Spent,
+    Full,
+}
+
+// The answer of a page call: its refusal number, 0 where it is accepted, and what it did; a refused call has 0 in all other fields.
+#[repr(C)]
+pub struct PageAnswer {
+    pub refusal: u32,
+    pub stop: u32,
+    pub groups: u32,
+    pub steps: u32,
+    pub used: usize,
+    pub wanted: usize,
+}
+
+// The number of a stop.
+fn stop_number(s: Stop) -> u32
+    ensures { λ r. ⌜ r ≡ stopNumber s ⌝ }
+{
+    match s {
+        Stop::Finished => 1,
+        Stop::Spent => 2,
+        Stop::Full => 3,
+    }
+}
+
+// The answer of a refused call.
+fn turned_back(number: u32) -> PageAnswer
+    ensures { λ r. ⌜ r ≡ refused number ⌝ }
+{
+    PageAnswer {
+        refusal: number,
+        stop: 0,
+        groups: 0,
+        steps: 0,
+        used: 0,
+        wanted: 0,
+    }
+}
+
+// The refusal number of what a call brings, before its position is looked into: 1 to 10, and 0 where all these tests pass. Reads the table.
+fn input_refusal(table: &[u8], n: usize, q: Settings, position: &[u8], work: &[u16]) -> u32
+    ensures { λ r. ⌜
+        r ≡ refuseTable n (now (table .entry)) (refuseSettings (settingsOf q) (refuseLengths n (now (position .entry)) (length (now (work .entry))) 0))
+        ⌝ }
+{
+    let a = table_refusal(table, n);
+    if a != 0 {
+        return a;
+    }
+    let b = settings_refusal(q);
+    if b != 0 {
+        return b;
+    }
+    if position.len() != n {
+        return 9;
+    }
+    if work.len() < 8 * n {
+        return 10;
+    }
+    0
+}
+
+// The page call, of any arguments. A refused call leaves the position, the output and the work slice as they were; an accepted one walks on from the
+// position, at most as many steps as the budget has, and puts the groups that it passes into the output.
+pub fn page(
+    table: &[u8],
+    position: &mut [u8],
+    output: &mut [u16],
+    work: &mut [u16],
+    n: usize,
+    notion: u32,
+    kind: u32,
+    c: u32,
+    budget: u32,
+) -> PageAnswer
+    ensures { λ r. ⌜
+        PageCalled n (now (table .entry)) (given notion kind c) budget (now (position .entry)) (now (output .entry)) (now (work .entry))
+        r (now (position .exit)) (now (output .exit)) (now (work .exit))
+        ⌝ }
+{
+    let q = Settings {
+        notion,
+        kind,
+        factor: c,
+    };
+    let a = input_refusal(table, n, q, position, work);
+    if a != 0 {
+        return turned_back(a);
+    }
+    let mut ranks = [0u16; 2048];
+    prepare(table, n, &mut ranks);
+    let d = position_refusal(table, &ranks, n, c, position);
+    if d != 0 {
+        return turned_back(d);
+    }
+    let first = rebuild(table, &ranks, n, position, work);
+    run(table, &ranks, position, output, work, n, q, first, budget)
+}

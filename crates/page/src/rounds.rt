@@ -1,0 +1,69 @@
+// The rounds of a page: the loop that writes groups and makes steps until the walk is finished, the budget is spent or the output is full.
+ghost use lib.ListN.{length};
+ghost use Rattle.model.specs.Graph.{byTable};
+ghost use Rattle.model.specs.Walk.{page};
+ghost use Rattle.model.specs.Listing.{rules};
+ghost use Rattle.model.specs.Calls.{replyOf};
+ghost use Rattle.query.specs.Numbers.{settingsOf};
+ghost use Rattle.page.specs.Answer.{Replies};
+ghost use Rattle.page.specs.Round.{Begins};
+use crate::PageAnswer;
+use crate::State;
+use crate::Stop;
+use crate::emit::emit;
+use crate::stop_number;
+use crate::walk::finished;
+use crate::walk::step;
+use query::Settings;
+
+// A page from the position that the state and the work slice stand for, accepted by all tests: one step a round, in this order, until a round stops.
+pub fn run(
+    table: &[u8],
+    ranks: &[u16],
+    position: &mut [u8],
+    output: &mut [u16],
+    work: &mut [u16],
+    n: usize,
+    q: Settings,
+    first: State,
+    budget: u32,
+) -> PageAnswer
+    requires { ⌜ Begins n (now table) (now ranks) (now position) (now work) q first ⌝ }
+    ensures { λ r. ⌜
+        Replies r (now (position .exit)) (now (output .exit))
+        (replyOf 0 (page (rules (byTable n (now (table .entry))) (settingsOf q)) budget (length (now (output .entry))) (now (position .entry)))
+        (now (position .entry)) (now (output .entry)))
+        ⌝ }
+{
+    let c = q.factor as usize;
+    let mut s = first;
+    let mut steps: u32 = 0;
+    let mut groups: u32 = 0;
+    let mut used: usize = 0;
+    let mut wanted: usize = 0;
+    let stop = loop {
+        if finished(s, n) {
+            break Stop::Finished;
+        }
+        if steps == budget {
+            break Stop::Spent;
+        }
+        let put = emit(s, q, table, ranks, work, n, output, used);
+        if put.full {
+            wanted = put.wanted;
+            break Stop::Full;
+        }
+        used = put.used;
+        groups += put.groups;
+        s = step(s, table, ranks, n, c, position, work);
+        steps += 1;
+    };
+    PageAnswer {
+        refusal: 0,
+        stop: stop_number(stop),
+        groups,
+        steps,
+        used,
+        wanted,
+    }
+}
