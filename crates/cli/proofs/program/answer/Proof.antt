@@ -1,0 +1,80 @@
+-- `cli::program::answer` is safe: a graph that is to be listed is within its table. Assumes nothing.
+use Prim.Native.Nat.{_*_}
+use mathlib.Core.Path.{sym}
+use native.Mathlib.Omega.{arith}
+use lib.Seq.{length-take-le}
+use Rattle.cli.proofs.Judging.{graph-fine, small-square}
+use borrow.Author.Needs.{needs}
+use Rattle.cli.proofs.program.answer.Statement.{statement}
+use Rattle.cli.proofs.program.answer.Tie as tie
+
+slice-aggregate-read-full : tie.Need-slice-aggregate-read-full
+slice-aggregate-read-full c = search needs
+
+read-full-requires : tie.Need-read-full-requires
+read-full-requires c κs = search needs
+
+array-share-prefix-text : tie.Need-array-share-prefix-text
+array-share-prefix-text c = search needs
+
+slice-aggregate-judge : tie.Need-slice-aggregate-judge
+slice-aggregate-judge c = search needs
+
+slice-aggregate-judge-2 : tie.Need-slice-aggregate-judge-2
+slice-aggregate-judge-2 c = search needs
+
+judge-requires : tie.Need-judge-requires
+judge-requires c κs = search needs
+
+enum-known-number : tie.Need-enum-known-number
+enum-known-number c = search needs
+
+refuse-requires : tie.Need-refuse-requires
+refuse-requires c κs = search needs
+
+enum-known-n : tie.Need-enum-known-n
+enum-known-n c = search needs
+
+mul-table : tie.Need-mul-table
+mul-table c =
+    let f = graph-fine (c .before .n .given .1) (c .before .before .before .before .judge .ensures) in
+    omega (arith, small-square (c .before .n .given .0 .0) (f .0))
+
+array-share-prefix-table : tie.Need-array-share-prefix-table
+array-share-prefix-table c = graph-fine (c .before .n .given .1) (c .before .before .before .before .judge .ensures) .1
+
+slice-aggregate-list : tie.Need-slice-aggregate-list
+slice-aggregate-list c =
+    let m = c .before .before .n .given .0 .0 in
+    sym (length-take-le (m * m) (c .before .before .before .before .before .judge .last .1 .0) (graph-fine (c .before .before .n .given .1) (c .before .before .before .before .before .judge .ensures) .1))
+
+list-requires : tie.Need-list-requires
+list-requires c κs =
+    let f = graph-fine (c .before .before .n .given .1) (c .before .before .before .before .before .judge .ensures) in
+    record { few = f .0; table = f .2; settings = c .before .before .before .before .before .before .before .before .before .before .before .pre }
+
+returns : tie.Need-returns
+returns c = search needs
+
+returns-2 : tie.Need-returns-2
+returns-2 c = search needs
+
+pub answer-spec : {M : Type 1} → statement M
+answer-spec =
+    tie.close
+    (tie.spec
+    slice-aggregate-read-full
+    read-full-requires
+    array-share-prefix-text
+    slice-aggregate-judge
+    slice-aggregate-judge-2
+    judge-requires
+    enum-known-number
+    refuse-requires
+    enum-known-n
+    mul-table
+    array-share-prefix-table
+    slice-aggregate-list
+    list-requires
+    returns
+    returns-2)

@@ -1,0 +1,40 @@
+// The program's words: notion, kind and factor.
+ghost use Rattle.cli.specs.Words.{WordsRead};
+use dimacs::field::Field;
+use dimacs::field::number;
+use query::Settings;
+
+// What the words say: a refusal, by its number, or the settings.
+pub enum Words {
+    Wrong(u32),
+    Chosen(Settings),
+}
+
+// The settings of three words, or the refusal of words that are not three, of one that is no number, or of the numbers' bounds. With another
+// count the words themselves may be anything.
+pub fn settings_of(count: usize, a: &[u8], b: &[u8], c: &[u8]) -> Words
+    ensures { λ r. ⌜ WordsRead count (now (a .entry)) (now (b .entry)) (now (c .entry)) r ⌝ }
+{
+    if count != 3 {
+        return Words::Wrong(32);
+    }
+    let Field::Number(notion) = number(a) else {
+        return Words::Wrong(32);
+    };
+    let Field::Number(kind) = number(b) else {
+        return Words::Wrong(32);
+    };
+    let Field::Number(factor) = number(c) else {
+        return Words::Wrong(32);
+    };
+    let s = Settings {
+        notion: notion as u32,
+        kind: kind as u32,
+        factor: factor as u32,
+    };
+    let refusal = query::settings_refusal(s);
+    if refusal != 0 {
+        return Words::Wrong(refusal);
+    }
+    Words::Chosen(s)
+}
