@@ -1,0 +1,21 @@
+//! The library's times beside plain Rust, all in one run. Prints a page in Markdown: trust the ratios, not the times.
+
+mod clock;
+mod first_page;
+mod graphs;
+mod growth;
+mod kerbosch;
+mod lists;
+mod reader;
+mod steps;
+mod twin;
+mod twins;
+
+fn main() {
+    steps::print();
+    twins::print();
+    first_page::print();
+    lists::print();
+    reader::print();
+    growth::print();
+}

@@ -1,0 +1,97 @@
+//! The page beside the same page in safe Rust.
+
+use crate::clock::{medians, shown};
+use crate::graphs::{near_cliques, random, ring, Graph};
+use crate::twin;
+use isolated::{page, work_entries, Kind, Notion, Settings, Stop};
+use std::hint::black_box;
+
+const BUDGET: u32 = 8_000_000;
+const OUTPUT: usize = 1 << 22;
+
+/// Both sides must do the same thing, else their times say nothing.
+fn check(graph: &Graph, settings: Settings) -> u32 {
+    let n = graph.n;
+    let (mut position, mut its_position) = (vec![0; n], vec![0; n]);
+    let (mut output, mut its_output) = (vec![0; OUTPUT], vec![0; OUTPUT]);
+    let mut work = vec![0; work_entries(n)];
+    let ours = page(&graph.table, &mut position, &mut output, &mut work, n, settings, BUDGET).unwrap();
+    let its = twin::page(&graph.table, &mut its_position, &mut its_output, &mut work, n, settings, BUDGET).unwrap();
+    let stop = match ours.stop {
+        Stop::Finished => twin::Stop::Finished,
+        Stop::Spent => twin::Stop::Spent,
+        Stop::Full { .. } => twin::Stop::Full,
+    };
+    let expected = twin::Page { stop, groups: ours.groups, steps: ours.steps, used: ours.used };
+    assert_eq!(its, expected, "the twin answers otherwise");
+    assert!(position == its_position && output == its_output, "the twin leaves other memory");
+    ours.steps
+}
+
+/// A side of the comparison: a page from fresh with a budget.
+type Side<'a> = &'a mut dyn FnMut(u32);
+
+/// Times both sides, each with the whole budget and with none: page, twin, page's opening, twin's opening.
+fn times(page: Side, twin: Side) -> [f64; 4] {
+    let (page, twin) = (std::cell::RefCell::new(page), std::cell::RefCell::new(twin));
+    let medians = medians(&mut [
+        &mut || (page.borrow_mut())(BUDGET),
+        &mut || (twin.borrow_mut())(BUDGET),
+        &mut || (page.borrow_mut())(0),
+        &mut || (twin.borrow_mut())(0),
+    ]);
+    [medians[0], medians[1], medians[2], medians[3]]
+}
+
+fn compare(name: &str, graph: &Graph, settings: Settings) {
+    let n = graph.n;
+    let steps = check(graph, settings);
+    let (mut position, mut its_position) = (vec![0; n], vec![0; n]);
+    let (mut output, mut its_output) = (vec![0; OUTPUT], vec![0; OUTPUT]);
+    let (mut work, mut its_work) = (vec![0; work_entries(n)], vec![0; work_entries(n)]);
+    let [ours, its, our_opening, its_opening] = times(
+        &mut |budget| {
+            position.fill(0);
+            let table = black_box(&graph.table);
+            black_box(page(table, &mut position, &mut output, &mut work, n, settings, budget)).unwrap();
+        },
+        &mut |budget| {
+            its_position.fill(0);
+            let table = black_box(&graph.table);
+            let (position, output, work) = (&mut its_position, &mut its_output, &mut its_work);
+            black_box(twin::page(table, position, output, work, n, settings, budget)).unwrap();
+        },
+    );
+    println!(
+        "| {name} | {n} | {} {} {} | {steps} | {} | {} | {:.2} | {:.2} |",
+        settings.notion.number(),
+        settings.kind.number(),
+        settings.c,
+        shown(ours),
+        shown(its),
+        ours / its,
+        (ours - our_opening) / (its - its_opening)
+    );
+}
+
+pub fn print() {
+    println!("## The page beside the same page in safe Rust\n");
+    println!("Whole calls from the fresh position, at most {BUDGET} steps each; in the last column the walk alone, the opening of");
+    println!("both sides taken off. The bar: at most 1.1 times the twin.\n");
+    println!("| graph | n | settings | steps | page | twin | page to twin | walk to twin's walk |");
+    println!("|---|---|---|---|---|---|---|---|");
+    let blocks: fn(usize) -> Graph = near_cliques;
+    let rings: fn(usize) -> Graph = |n| ring(n, 4);
+    let randoms: fn(usize) -> Graph = |n| random(n, 12, 5);
+    for (name, make, c) in
+        [("near-cliques of 8", blocks, 4), ("ring, reach 4", rings, 6), ("random, degree 12", randoms, 8)]
+    {
+        for n in [64, 256, 1024] {
+            let graph = make(n);
+            for (notion, kind) in [(Notion::Max, Kind::MaximalIsolated), (Notion::Avg, Kind::IsolatedMaximal)] {
+                compare(name, &graph, Settings { notion, kind, c });
+            }
+        }
+    }
+    println!();
+}

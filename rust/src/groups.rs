@@ -1,0 +1,106 @@
+//! All groups of a graph, one after the other.
+
+use crate::{page, work_entries, Page, Refusal, Settings, Stop};
+
+/// Steps that one page may make. A page tests the whole table anew, so that many steps keep that cost small, and
+/// a walk of few groups still comes back now and then.
+const BUDGET: u32 = 1 << 20;
+
+/// The memory of a listing: its position, its output and its work slice. It is made by the caller and lent to
+/// [`Groups`], so that one room serves many graphs.
+pub struct Room {
+    position: Vec<u8>,
+    output: Vec<u16>,
+    work: Vec<u16>,
+}
+
+impl Room {
+    /// A room for graphs of `n` vertices: n bytes, at least n + 1 entries of output and 8 × n entries of work.
+    pub fn new(n: usize) -> Room {
+        Room::with_output(n, 4096)
+    }
+
+    /// A room with an output of this many entries, or of n + 1 where this is more: any group fits then.
+    pub fn with_output(n: usize, entries: usize) -> Room {
+        Room { position: vec![0; n], output: vec![0; entries.max(n + 1)], work: vec![0; work_entries(n)] }
+    }
+}
+
+/// All groups of a graph in the order of document 01, each as its vertices in rank order.
+///
+/// It pages underneath and keeps no list: what it needs is in the [`Room`] that it borrows. The steps made so far
+/// are [`Groups::steps`]; after the last group this is the length of the walk.
+///
+/// ```
+/// use isolated::{Groups, Kind, Notion, Refusal, Room, Settings};
+///
+/// # fn main() -> Result<(), Refusal> {
+/// let triangle = [0, 1, 1, 1, 0, 1, 1, 1, 0];
+/// let mut room = Room::new(3);
+/// let settings = Settings { notion: Notion::Avg, kind: Kind::IsolatedMaximal, c: 1 };
+/// let mut groups = Groups::new(&triangle, 3, settings, &mut room)?;
+/// assert_eq!(groups.next(), Some(vec![0, 1, 2]));
+/// assert_eq!(groups.next(), None);
+/// assert_eq!(groups.steps(), 10);
+///
+/// let refused = Groups::new(&triangle, 3, Settings { c: 0, ..settings }, &mut room);
+/// assert_eq!(refused.err(), Some(Refusal::Factor));
+/// # Ok(())
+/// # }
+/// ```
+pub struct Groups<'a> {
+    table: &'a [u8],
+    n: usize,
+    settings: Settings,
+    room: &'a mut Room,
+    /// Entries of the output already handed on, and entries that the last page used.
+    read: usize,
+    used: usize,
+    steps: u64,
+    finished: bool,
+}
+
+impl<'a> Groups<'a> {
+    /// Starts a listing from the fresh position. Any fault of the table, n, the settings or the room is told here;
+    /// the listing itself is refused nothing after that.
+    pub fn new(table: &'a [u8], n: usize, settings: Settings, room: &'a mut Room) -> Result<Groups<'a>, Refusal> {
+        room.position.fill(0);
+        let mut groups = Groups { table, n, settings, room, read: 0, used: 0, steps: 0, finished: false };
+        groups.turn(0)?;
+        Ok(groups)
+    }
+
+    /// The steps that the walk has made so far.
+    pub fn steps(&self) -> u64 {
+        self.steps
+    }
+
+    /// One page; the output is read up to its used entries afterwards.
+    fn turn(&mut self, budget: u32) -> Result<Page, Refusal> {
+        let room = &mut *self.room;
+        let done =
+            page(self.table, &mut room.position, &mut room.output, &mut room.work, self.n, self.settings, budget)?;
+        self.read = 0;
+        self.used = done.used;
+        self.steps += u64::from(done.steps);
+        self.finished = done.stop == Stop::Finished;
+        Ok(done)
+    }
+}
+
+impl Iterator for Groups<'_> {
+    type Item = Vec<u16>;
+
+    fn next(&mut self) -> Option<Vec<u16>> {
+        while self.read == self.used {
+            if self.finished {
+                return None;
+            }
+            self.turn(BUDGET).expect("the walk's own position is accepted");
+        }
+        let size = usize::from(self.room.output[self.read]);
+        let first = self.read + 1;
+        self.read = first + size;
+        Some(self.room.output[first..self.read].to_vec())
+    }
+}

@@ -1,0 +1,95 @@
+//! The page call: the walk goes on, and the groups it meets are written.
+
+use crate::calls::isolated_page;
+use crate::{Refusal, Settings};
+
+/// Why a page stopped.
+#[derive(Clone, Copy, Debug, PartialEq, Eq, Hash)]
+pub enum Stop {
+    /// The walk is over: the whole list is out.
+    Finished,
+    /// As many steps as the budget allows were made.
+    Spent,
+    /// The next group does not fit into the unused output: it wants this many entries.
+    Full { wanted: usize },
+}
+
+/// What one accepted page did.
+#[derive(Clone, Copy, Debug, PartialEq, Eq, Hash)]
+pub struct Page {
+    pub stop: Stop,
+    /// Groups written.
+    pub groups: u32,
+    /// Steps of the walk made, at most the budget.
+    pub steps: u32,
+    /// Entries of the output used.
+    pub used: usize,
+}
+
+/// The entries that a work slice needs for `n` vertices.
+pub fn work_entries(n: usize) -> usize {
+    8 * n
+}
+
+/// Goes on with the walk over a graph and writes the groups it meets.
+///
+/// `table` has n × n bytes. `position` has n bytes, one a rank: all 0 at the start; hand on what the last call left.
+/// `output`, of any length, gets each group as its size and then its vertices in rank order, right from entry 0;
+/// entries past `used` keep their contents. `work` has at least [`work_entries`] entries; its contents do not matter
+/// and are open afterwards. `budget` is the most steps to make. A refusal leaves every slice as it was.
+///
+/// ```
+/// use isolated::{page, Kind, Notion, Settings, Stop};
+///
+/// # fn main() -> Result<(), isolated::Refusal> {
+/// let path = [0, 1, 0, 1, 0, 1, 0, 1, 0];
+/// let settings = Settings { notion: Notion::Max, kind: Kind::MaximalIsolated, c: 2 };
+/// let (mut position, mut output, mut work) = ([0; 3], [0; 4], [0; 24]);
+///
+/// let first = page(&path, &mut position, &mut output, &mut work, 3, settings, 1000)?;
+/// assert_eq!(first.stop, Stop::Full { wanted: 3 });
+/// assert_eq!(output[..first.used], [2, 0, 1]);
+///
+/// let second = page(&path, &mut position, &mut output, &mut work, 3, settings, 1000)?;
+/// assert_eq!(second.stop, Stop::Finished);
+/// assert_eq!(output[..second.used], [2, 2, 1]);
+/// # Ok(())
+/// # }
+/// ```
+pub fn page(
+    table: &[u8],
+    position: &mut [u8],
+    output: &mut [u16],
+    work: &mut [u16],
+    n: usize,
+    settings: Settings,
+    budget: u32,
+) -> Result<Page, Refusal> {
+    // SAFETY: each pointer and length come from one slice, none is null, and the slices that may be written are
+    // borrowed exclusively, so that they overlap nothing.
+    let answer = unsafe {
+        isolated_page(
+            table.as_ptr(),
+            table.len(),
+            position.as_mut_ptr(),
+            position.len(),
+            output.as_mut_ptr(),
+            output.len(),
+            work.as_mut_ptr(),
+            work.len(),
+            n,
+            settings.notion.number(),
+            settings.kind.number(),
+            settings.c,
+            budget,
+        )
+    };
+    Refusal::told(answer.refusal)?;
+    let stop = match answer.stop {
+        1 => Stop::Finished,
+        2 => Stop::Spent,
+        3 => Stop::Full { wanted: answer.wanted },
+        other => unreachable!("the library told a stop that document 01 does not name: {other}"),
+    };
+    Ok(Page { stop, groups: answer.groups, steps: answer.steps, used: answer.used })
+}

@@ -1,0 +1,41 @@
+//! The set query: is this set a group?
+
+use crate::calls::isolated_set_query;
+use crate::{Refusal, Settings};
+
+/// Says whether a set is a group.
+///
+/// `table` has n × n bytes. `set` has n bytes, one a vertex: 1 for a member, 0 for another. `work` has at least
+/// [`crate::work_entries`] entries; its contents do not matter and are open afterwards. The empty set is no group.
+/// A refusal leaves every slice as it was.
+///
+/// ```
+/// use isolated::{set_query, Kind, Notion, Refusal, Settings};
+///
+/// let path = [0, 1, 0, 1, 0, 1, 0, 1, 0];
+/// let settings = Settings { notion: Notion::Max, kind: Kind::MaximalIsolated, c: 2 };
+/// let mut work = [0; 24];
+/// assert_eq!(set_query(&path, &[1, 1, 0], &mut work, 3, settings), Ok(true));
+/// assert_eq!(set_query(&path, &[1, 0, 1], &mut work, 3, settings), Ok(false));
+/// assert_eq!(set_query(&path, &[1, 2, 0], &mut work, 3, settings), Err(Refusal::SetByte));
+/// ```
+pub fn set_query(table: &[u8], set: &[u8], work: &mut [u16], n: usize, settings: Settings) -> Result<bool, Refusal> {
+    // SAFETY: each pointer and length come from one slice, none is null, and the one slice that may be written is
+    // borrowed exclusively.
+    let answer = unsafe {
+        isolated_set_query(
+            table.as_ptr(),
+            table.len(),
+            set.as_ptr(),
+            set.len(),
+            work.as_mut_ptr(),
+            work.len(),
+            n,
+            settings.notion.number(),
+            settings.kind.number(),
+            settings.c,
+        )
+    };
+    Refusal::told(answer.refusal)?;
+    Ok(answer.yes == 1)
+}

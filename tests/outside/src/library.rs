@@ -1,0 +1,190 @@
+//! The library's three calls over guarded memory. What a call was handed and what it left are plain values here.
+
+use crate::lent::Lent;
+
+#[repr(C)]
+#[derive(Clone, Copy, Debug, Default, PartialEq, Eq)]
+pub struct PageAnswer {
+    pub refusal: u32,
+    pub stop: u32,
+    pub groups: u32,
+    pub steps: u32,
+    pub used: usize,
+    pub wanted: usize,
+}
+
+#[repr(C)]
+#[derive(Clone, Copy, Debug, Default, PartialEq, Eq)]
+pub struct SetAnswer {
+    pub refusal: u32,
+    pub yes: u32,
+}
+
+#[repr(C)]
+#[derive(Clone, Copy, Debug, Default, PartialEq, Eq)]
+pub struct TextAnswer {
+    pub refusal: u32,
+    pub vertices: u32,
+    pub edges: u32,
+    pub line: usize,
+}
+
+mod exported {
+    use super::{PageAnswer, SetAnswer, TextAnswer};
+
+    #[link(name = "ffi", kind = "static")]
+    extern "C" {
+        pub fn isolated_page(
+            table: *const u8,
+            table_length: usize,
+            position: *mut u8,
+            position_length: usize,
+            output: *mut u16,
+            output_length: usize,
+            work: *mut u16,
+            work_length: usize,
+            n: usize,
+            notion: u32,
+            kind: u32,
+            c: u32,
+            budget: u32,
+        ) -> PageAnswer;
+        pub fn isolated_set_query(
+            table: *const u8,
+            table_length: usize,
+            set: *const u8,
+            set_length: usize,
+            work: *mut u16,
+            work_length: usize,
+            n: usize,
+            notion: u32,
+            kind: u32,
+            c: u32,
+        ) -> SetAnswer;
+        pub fn isolated_read_text(
+            text: *const u8,
+            text_length: usize,
+            table: *mut u8,
+            table_length: usize,
+        ) -> TextAnswer;
+    }
+}
+
+/// The arguments of a page call.
+#[derive(Clone, Debug)]
+pub struct PageRequest {
+    pub table: Vec<u8>,
+    pub position: Vec<u8>,
+    pub output: Vec<u16>,
+    pub work: Vec<u16>,
+    pub n: usize,
+    pub notion: u32,
+    pub kind: u32,
+    pub c: u32,
+    pub budget: u32,
+}
+
+/// A page call's answer and the memory it left. The work slice stands here only where the call was refused: after
+/// acceptance its contents are free.
+#[derive(Clone, Debug, PartialEq)]
+pub struct PageReply {
+    pub answer: PageAnswer,
+    pub position: Vec<u8>,
+    pub output: Vec<u16>,
+    pub work: Option<Vec<u16>>,
+}
+
+pub fn page(request: &PageRequest) -> PageReply {
+    let mut table = Lent::new(&request.table);
+    let mut position = Lent::new(&request.position);
+    let mut output = Lent::new(&request.output);
+    let mut work = Lent::new(&request.work);
+    // SAFETY: four slices that overlap nowhere, each with its own length.
+    let answer = unsafe {
+        exported::isolated_page(
+            table.pointer(),
+            table.len(),
+            position.pointer(),
+            position.len(),
+            output.pointer(),
+            output.len(),
+            work.pointer(),
+            work.len(),
+            request.n,
+            request.notion,
+            request.kind,
+            request.c,
+            request.budget,
+        )
+    };
+    assert!(table.contents("the table") == request.table, "the table was written");
+    let work = work.contents("the work slice");
+    PageReply {
+        answer,
+        position: position.contents("the position"),
+        output: output.contents("the output"),
+        work: (answer.refusal != 0).then_some(work),
+    }
+}
+
+/// The arguments of a set query.
+#[derive(Clone, Debug)]
+pub struct SetRequest {
+    pub table: Vec<u8>,
+    pub set: Vec<u8>,
+    pub work: Vec<u16>,
+    pub n: usize,
+    pub notion: u32,
+    pub kind: u32,
+    pub c: u32,
+}
+
+/// A set query's answer, and the work slice where it was refused.
+#[derive(Clone, Debug, PartialEq)]
+pub struct SetReply {
+    pub answer: SetAnswer,
+    pub work: Option<Vec<u16>>,
+}
+
+pub fn set_query(request: &SetRequest) -> SetReply {
+    let mut table = Lent::new(&request.table);
+    let mut set = Lent::new(&request.set);
+    let mut work = Lent::new(&request.work);
+    // SAFETY: three slices that overlap nowhere, each with its own length.
+    let answer = unsafe {
+        exported::isolated_set_query(
+            table.pointer(),
+            table.len(),
+            set.pointer(),
+            set.len(),
+            work.pointer(),
+            work.len(),
+            request.n,
+            request.notion,
+            request.kind,
+            request.c,
+        )
+    };
+    assert!(table.contents("the table") == request.table, "the table was written");
+    assert!(set.contents("the set") == request.set, "the set was written");
+    let work = work.contents("the work slice");
+    SetReply { answer, work: (answer.refusal != 0).then_some(work) }
+}
+
+/// The text reader's answer and the table it left.
+#[derive(Clone, Debug, PartialEq)]
+pub struct TextReply {
+    pub answer: TextAnswer,
+    pub table: Vec<u8>,
+}
+
+pub fn read_text(text: &[u8], table: &[u8]) -> TextReply {
+    let mut lent_text = Lent::new(text);
+    let mut lent_table = Lent::new(table);
+    // SAFETY: two slices that do not overlap, each with its own length.
+    let answer = unsafe {
+        exported::isolated_read_text(lent_text.pointer(), lent_text.len(), lent_table.pointer(), lent_table.len())
+    };
+    assert!(lent_text.contents("the text") == text, "the text was written");
+    TextReply { answer, table: lent_table.contents("the table") }
+}
