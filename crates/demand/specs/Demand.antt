@@ -76,6 +76,7 @@ pub record EachCall (c : Call) : Type 0 where
   pub refused-idle : c .answer .refusal ≢ 0
       → (c .answer .used ≡ 0) × (c .answer .groups ≡ 0) × (c .answer .steps ≡ 0) × (c .position-left ≡ c .position) × (c .output-left ≡ c .output) × (c .work-left ≡ c .work)
 
+-- that of every call of the list
 abbrev pub Every : List Call → Type 0
 Every [] = Unit {0}
 Every (c ∷ cs) = EachCall c × Every cs

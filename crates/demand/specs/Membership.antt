@@ -47,5 +47,6 @@ pub record TextDemand (text before after : List ℕ) (a : TextAnswer) : Type 0 w
   pub read-iff : (a .refusal ≡ 0) ↔ ((n : ℕ) × (m : ℕ) × (t : List ℕ) × EdgeText (length before) text n m t)
   pub graph : (n m : ℕ) (t : List ℕ) → EdgeText (length before) text n m t → Read n m t before after a
 
+-- that of every call of `dimacs::read_text`
 abbrev pub ReaderDemand : Type 0
 ReaderDemand = (text before after : List ℕ) (a : TextAnswer) → ReadsAs text before after a → TextDemand text before after a

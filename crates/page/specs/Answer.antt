@@ -26,10 +26,11 @@ pub record Replies (a : PageAnswer) (p : Position) (out : List ℕ) (r : PageRep
   pub position : p ≡ r .position
   pub output : out ≡ r .output
 
--- the answer of an accepted call that stopped so and did so much, and that of a refused one
+-- the answer of an accepted call that stopped so and did so much
 abbrev pub accepted : ℕ → ℕ → ℕ → ℕ → ℕ → PageAnswer
 accepted stop groups steps used wanted =
     record { refusal = 0; stop = stop; groups = groups; steps = steps; used = used; wanted = wanted }
 
+-- the answer of a refused call: all other numbers are 0
 abbrev pub refused : ℕ → PageAnswer
 refused number = record { refusal = number; stop = 0; groups = 0; steps = 0; used = 0; wanted = 0 }
