@@ -10,11 +10,11 @@ use Rattle.model.specs.Groups as groups
 use Rattle.model.specs.Calls.{refuseSettings}
 use Rattle.model.specs.Text.{numberOf}
 use Rattle.model.specs.Program.{wrong, chosen, bounded, three, settingsOf}
-use Rattle.dimacs.specs.declared.field.Field.{Field}
-use Rattle.dimacs.specs.declared.field.Field.the-variants.{Number, NoNumber}
-use Rattle.dimacs.specs.Field.{NumberRead, valueOf, SixDigits}
-use Rattle.query.specs.Numbers as numbers
-use Rattle.query.specs.declared.Settings.{Settings}
+use Rattle.number.specs.declared.Field.{Field}
+use Rattle.number.specs.declared.Field.the-variants.{Number, NoNumber}
+use Rattle.number.specs.Field.{NumberRead, valueOf, SixDigits}
+use Rattle.isolation.specs.Numbers as numbers
+use Rattle.isolation.specs.declared.Settings.{Settings}
 use Rattle.cli.specs.declared.words.Words.{Words}
 use Rattle.cli.specs.declared.words.Words.the-variants.{Wrong, Chosen}
 use Rattle.cli.specs.Words.{Proper, WordsRead}

@@ -15,18 +15,18 @@ use Rattle.model.specs.Groups as groups
 use Rattle.model.specs.Text.{numberOf}
 use Rattle.model.specs.Program.{Words, chosen, Verdict, refusal, three, settingsOf, byWords, programVerdict, PrintsAt, Prints, refusedLine, endLine, printedPages}
 use Rattle.theory.proofs.program.Program.{words-refused}
-use Rattle.dimacs.proofs.Numbers.{number-empty, number-long}
-use Rattle.query.specs.Numbers as numbers
-use Rattle.query.specs.declared.Settings.{Settings}
-use Rattle.cli.specs.declared.totals.Totals.{Totals}
+use Rattle.number.proofs.Numbers.{number-empty, number-long}
+use Rattle.isolation.specs.Numbers as numbers
+use Rattle.isolation.specs.declared.Settings.{Settings}
+use Rattle.listing.specs.declared.totals.Totals.{Totals}
 use Rattle.cli.specs.declared.verdict.Verdict as verdict
 use Rattle.cli.specs.declared.verdict.Verdict.the-variants.{Refused, Listing}
 use Rattle.cli.specs.declared.words.Words as said
 use Rattle.cli.specs.declared.words.Words.the-variants.{Wrong, Chosen}
-use Rattle.cli.specs.List.{Ran}
+use Rattle.listing.specs.List.{Ran}
 use Rattle.cli.specs.Verdict.{verdictOf, Judged}
 use Rattle.cli.specs.Words.{wordsOf, WordsRead}
-use Rattle.cli.proofs.Paging.{ran-prints}
+use Rattle.listing.proofs.Paging.{ran-prints}
 
 -- ---- words and text as they are handed over
 

@@ -5,7 +5,7 @@ use mathlib.Core.List.{List, [], _∷_}
 use lib.ListN.{length}
 use Rattle.model.specs.Calls.{refuseSettings}
 use Rattle.model.specs.Program as program
-use Rattle.query.specs.Numbers.{settingsOf}
+use Rattle.isolation.specs.Numbers.{settingsOf}
 use Rattle.cli.specs.declared.words.Words.{Words}
 use Rattle.cli.specs.declared.words.Words.the-variants.{Wrong, Chosen}
 

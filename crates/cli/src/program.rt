@@ -3,18 +3,18 @@ ghost use mathlib.Core.Path.{_≡_};
 ghost use Prim.Native.Nat.{_-_};
 ghost use lib.ListN.{length};
 ghost use Rattle.model.specs.Calls.{refuseSettings};
-ghost use Rattle.query.specs.Numbers.{settingsOf};
-ghost use Rattle.cli.specs.List.{Listable};
-use crate::list::list_all;
-use crate::print::end_line;
-use crate::print::refused_line;
+ghost use Rattle.isolation.specs.Numbers.{settingsOf};
+ghost use Rattle.listing.specs.List.{Listable};
+use listing::list_all;
+use print::end_line;
+use print::refused_line;
 use crate::verdict::Verdict;
 use crate::verdict::judge;
 use crate::words::Words;
 use crate::words::settings_of;
 use libc::STDIN_FILENO;
 use libc::STDOUT_FILENO;
-use query::Settings;
+use isolation::Settings;
 
 // Room for the output of a page, for the work slice of 256 vertices, and for what is printed of a page.
 fn output_room() -> [u16; 8192]

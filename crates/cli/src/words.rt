@@ -1,8 +1,8 @@
 // The program's words: notion, kind and factor.
 ghost use Rattle.cli.specs.Words.{WordsRead};
-use dimacs::field::Field;
-use dimacs::field::number;
-use query::Settings;
+use number::Field;
+use number::number;
+use isolation::Settings;
 
 // What the words say: a refusal, by its number, or the settings.
 pub enum Words {
@@ -32,7 +32,7 @@ pub fn settings_of(count: usize, a: &[u8], b: &[u8], c: &[u8]) -> Words
         kind: kind as u32,
         factor: factor as u32,
     };
-    let refusal = query::settings_refusal(s);
+    let refusal = isolation::settings_refusal(s);
     if refusal != 0 {
         return Words::Wrong(refusal);
     }

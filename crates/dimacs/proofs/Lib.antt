@@ -1,8 +1,2 @@
--- Laws of the definitions of document 01's texts, and what the readers' proofs cite of them.
-pub mod Splits
-pub mod Numbers
-pub mod Fields
-pub mod Lines
-pub mod Cells
-pub mod Steps
+-- Laws.
 pub mod Replies

@@ -10,13 +10,13 @@ use lib.ListN.{length, take, drop, replicate, take-append-drop, drop-of-length-l
 use lib.Seq.{drop-drop}
 use borrow.Author.Tests.{eq-eqb, ne-eqb}
 use Rattle.model.specs.Text.{Step, bad, next, lineStep, linesOf, TextReply, refusedAt, readFrom, readText}
-use Rattle.dimacs.specs.Field.{Found}
-use Rattle.dimacs.specs.Line.{readingOf, start, Fit, Stepped}
+use Rattle.number.specs.Field.{Found}
+use Rattle.lines.specs.Line.{readingOf, start, Fit, Stepped}
 use Rattle.dimacs.specs.Reply.{Replies}
-use Rattle.dimacs.specs.declared.line.State.{State}
-use Rattle.dimacs.specs.declared.line.Line.the-variants.{Bad, Next}
+use Rattle.lines.specs.declared.State.{State}
+use Rattle.lines.specs.declared.Line.the-variants.{Bad, Next}
 use Rattle.dimacs.specs.declared.TextAnswer.{TextAnswer}
-use Rattle.dimacs.proofs.Splits.{lines-at}
+use Rattle.number.proofs.Splits.{lines-at}
 
 -- ---- the replies
 

@@ -2,16 +2,12 @@
 ghost use mathlib.Core.List.{[]};
 ghost use lib.ListN.{length};
 ghost use Rattle.model.specs.Text.{refusedAt, readFrom};
-ghost use Rattle.dimacs.specs.Line.{readingOf, Fit};
+ghost use Rattle.lines.specs.Line.{readingOf, Fit};
 ghost use Rattle.dimacs.specs.Reply.{Replies, ReadsAs};
 
-pub mod field;
-mod line;
-mod scan;
-mod table;
 
-use line::Line;
-use line::State;
+use lines::Line;
+use lines::State;
 
 // What a call answers: 0, N, M and 0, or the refusal's number, zeros and the line.
 #[repr(C)]
@@ -28,7 +24,7 @@ fn refuse(table: &mut [u8], s: State, number: u32, line: usize) -> TextAnswer
     ensures { λ r. ⌜ Replies (refusedAt number line (readingOf s (now (table .entry))) (now (table .entry))) (now (table .exit)) r ⌝ }
 {
     let n = s.vertices;
-    table::clear(table, n * n);
+    lines::table::clear(table, n * n);
     TextAnswer {
         refusal: number,
         vertices: 0,
@@ -70,8 +66,8 @@ pub fn read_text(text: &[u8], table: &mut [u8]) -> TextAnswer
     let mut at: usize = 0;
     let mut line: usize = 1;
     while at < text.len() {
-        let end = scan::find(text, at, b'\n');
-        match line::read_line(&text[at..end], table, s) {
+        let end = number::scan::find(text, at, b'\n');
+        match lines::read_line(&text[at..end], table, s) {
             Line::Bad(number) => {
                 return refuse(table, s, number, line);
             }

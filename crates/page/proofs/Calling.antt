@@ -19,14 +19,14 @@ use Rattle.theory.proofs.calls.PageAccepted.{refuse-pass}
 use Rattle.graph.specs.Table.{TableFits}
 use Rattle.graph.specs.Work.{WorkFits, Prepared}
 use Rattle.graph.proofs.Refusals.{table-accepted}
-use Rattle.query.specs.declared.Settings as query
-use Rattle.query.specs.Numbers.{settingsOf}
+use Rattle.isolation.specs.declared.Settings as query
+use Rattle.isolation.specs.Numbers.{settingsOf}
 use Rattle.page.specs.declared.PageAnswer.{PageAnswer}
-use Rattle.page.specs.declared.State.{State}
+use Rattle.walk.specs.declared.State.{State}
 use Rattle.page.specs.Answer.{Replies, refused}
 use Rattle.page.specs.Call.{PageCalled}
-use Rattle.page.specs.Position as position
-use Rattle.page.specs.State.{Ranked, Stands}
+use Rattle.position.specs.Position as position
+use Rattle.walk.specs.State.{Ranked, Stands}
 use Rattle.page.specs.Round.{Begins}
 use Rattle.page.proofs.Refusing.{Gate, table-gate, settings-gate, inputs}
 use Rattle.page.proofs.Turns.{replies-accepted, replies-refused}

@@ -1,20 +1,5 @@
--- The laws that the proofs of the page's functions share.
-pub mod Calling
-pub mod Decided
-pub mod Emitting
-pub mod Found
-pub mod Groups
-pub mod Judging
-pub mod Leaving
-pub mod Lists
-pub mod Opened
-pub mod Parts
-pub mod Positions
-pub mod Pushing
-pub mod Reading
+-- Laws.
 pub mod Refusing
 pub mod Running
-pub mod Sifting
-pub mod Standing
-pub mod Stepping
 pub mod Turns
+pub mod Calling

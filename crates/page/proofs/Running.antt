@@ -12,14 +12,14 @@ use Rattle.model.specs.Walk.{Position, Rules, finished, step, found, due, page}
 use Rattle.model.specs.Listing.{rules}
 use Rattle.model.specs.Calls.{replyOf}
 use Rattle.graph.proofs.Work.{table-size}
-use Rattle.query.specs.declared.Settings.{Settings}
-use Rattle.query.specs.Numbers.{settingsOf}
-use Rattle.page.specs.declared.State.{State}
-use Rattle.page.specs.declared.emit.Put.{Put}
-use Rattle.page.specs.State.{Stands}
-use Rattle.page.specs.Qualify.{Asks}
-use Rattle.page.specs.Emit.{PutAt, Emitted}
-use Rattle.page.specs.Walk.{rulesAt, Passes, SaysFinished, Walking, Stepped}
+use Rattle.isolation.specs.declared.Settings.{Settings}
+use Rattle.isolation.specs.Numbers.{settingsOf}
+use Rattle.walk.specs.declared.State.{State}
+use Rattle.emit.specs.declared.Put.{Put}
+use Rattle.walk.specs.State.{Stands}
+use Rattle.emit.specs.Qualify.{Asks}
+use Rattle.emit.specs.Emit.{PutAt, Emitted}
+use Rattle.walk.specs.Walk.{rulesAt, Passes, SaysFinished, Walking, Stepped}
 use Rattle.page.specs.Turn.{Turn}
 use Rattle.page.specs.Round.{Begins}
 use Rattle.page.specs.declared.Stop.{Stop}

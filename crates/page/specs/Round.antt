@@ -3,9 +3,9 @@
 use Prim.Native.Nat.{ℕ, _≤_}
 use mathlib.Core.List.{List}
 use Rattle.model.specs.Walk.{Position}
-use Rattle.query.specs.declared.Settings.{Settings}
-use Rattle.page.specs.declared.State.{State}
-use Rattle.page.specs.Walk.{Walking}
+use Rattle.isolation.specs.declared.Settings.{Settings}
+use Rattle.walk.specs.declared.State.{State}
+use Rattle.walk.specs.Walk.{Walking}
 
 -- the state and the work slice stand for a position that passes every test, at a factor that is not refused
 pub record Begins (n : ℕ) (t ranks : List ℕ) (p : Position) (w : List ℕ) (q : Settings) (s : State) : Type 0 where

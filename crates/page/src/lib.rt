@@ -1,34 +1,19 @@
 // The page call: the walk in steps, its groups into the output.
-mod emit;
-mod group;
-mod position;
-mod qualify;
 mod rounds;
-mod walk;
 
 ghost use mathlib.Core.Path.{_≡_};
 ghost use lib.ListN.{length};
 ghost use Rattle.model.specs.Calls.{refuseTable, refuseSettings, refuseLengths};
-ghost use Rattle.query.specs.Numbers.{settingsOf};
+ghost use Rattle.isolation.specs.Numbers.{settingsOf};
 ghost use Rattle.page.specs.Answer.{stopNumber, refused};
 ghost use Rattle.page.specs.Call.{given, PageCalled};
-use crate::position::position_refusal;
+use position::position_refusal;
 use crate::rounds::run;
-use crate::walk::rebuild;
+use walk::rebuild;
 use graph::prepare;
 use graph::table_refusal;
-use query::Settings;
-use query::settings_refusal;
-
-// What a page keeps beside the position and the work slice: how many ranks are decided, how many of them are taken, how many neighbours of the
-// pivot are left, the sum of the taken vertices' degrees, and whether two taken ranks are not adjacent.
-pub struct State {
-    pub decided: usize,
-    pub taken: usize,
-    pub left: usize,
-    pub sum: usize,
-    pub apart: bool,
-}
+use isolation::Settings;
+use isolation::settings_refusal;
 
 // Why a page stopped.
 pub enum Stop {

@@ -4,17 +4,17 @@ ghost use Rattle.model.specs.Graph.{byTable};
 ghost use Rattle.model.specs.Walk.{page};
 ghost use Rattle.model.specs.Listing.{rules};
 ghost use Rattle.model.specs.Calls.{replyOf};
-ghost use Rattle.query.specs.Numbers.{settingsOf};
+ghost use Rattle.isolation.specs.Numbers.{settingsOf};
 ghost use Rattle.page.specs.Answer.{Replies};
 ghost use Rattle.page.specs.Round.{Begins};
 use crate::PageAnswer;
-use crate::State;
+use walk::State;
 use crate::Stop;
-use crate::emit::emit;
+use emit::emit;
 use crate::stop_number;
-use crate::walk::finished;
-use crate::walk::step;
-use query::Settings;
+use walk::finished;
+use walk::step;
+use isolation::Settings;
 
 // A page from the position that the state and the work slice stand for, accepted by all tests: one step a round, in this order, until a round stops.
 pub fn run(

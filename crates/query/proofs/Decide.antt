@@ -24,15 +24,15 @@ use Rattle.theory.proofs.search.Members.{common-list}
 use Rattle.theory.proofs.search.Maximal.{qualifies-tally}
 use Rattle.graph.specs.Work.{WorkFits}
 use Rattle.graph.proofs.Work.{table-size}
-use Rattle.query.specs.declared.Settings.{Settings}
-use Rattle.query.specs.declared.Tally.{Tally}
-use Rattle.query.specs.Numbers.{settingsOf, isolatedOf, beatenOf, TallyOf}
-use Rattle.query.specs.Parts.{part, HoldsVertices, Written}
-use Rattle.query.specs.Search.{Lent, Posed, Tested}
+use Rattle.isolation.specs.declared.Settings.{Settings}
+use Rattle.isolation.specs.declared.Tally.{Tally}
+use Rattle.isolation.specs.Numbers.{settingsOf, isolatedOf, beatenOf, TallyOf}
+use Rattle.larger.specs.Parts.{part, HoldsVertices, Written}
+use Rattle.larger.specs.Search.{Lent, Posed, Tested}
 use Rattle.query.specs.Query.{pairwise, Tallies, Ready, Decided}
-use Rattle.query.proofs.Parts.{part-length, part-at}
+use Rattle.larger.proofs.Parts.{part-length, part-at}
 use Rattle.query.proofs.Members.{clique-test}
-use Rattle.query.proofs.Refusals.{QueryAccepted, query-accepted}
+use Rattle.isolation.proofs.Refusals.{QueryAccepted, query-accepted}
 
 -- ---- the numbers that pass a test
 

@@ -1,5 +1,2 @@
--- What the functions of the set query require and leave behind.
-pub mod Numbers
-pub mod Parts
+-- Specs.
 pub mod Query
-pub mod Search

@@ -13,10 +13,10 @@ use Rattle.model.specs.Groups as groups
 use Rattle.theory.specs.Search.{joinedAll, Members}
 use Rattle.model.specs.Calls.{byBytes, refuseQuery, query}
 use Rattle.graph.specs.Work.{WorkFits, HoldsDegrees}
-use Rattle.query.specs.declared.Settings.{Settings}
-use Rattle.query.specs.declared.Tally.{Tally}
+use Rattle.isolation.specs.declared.Settings.{Settings}
+use Rattle.isolation.specs.declared.Tally.{Tally}
 use Rattle.query.specs.declared.SetAnswer.{SetAnswer}
-use Rattle.query.specs.Numbers.{settingsOf, TallyOf}
+use Rattle.isolation.specs.Numbers.{settingsOf, TallyOf}
 
 -- each vertex of the list is joined to all before it
 unfoldable pub pairwise : Graph → List ℕ → Bool

@@ -1,7 +1,7 @@
 -- `dimacs::refuse` meets its contract. Assumes nothing.
 use native.Mathlib.Omega.{arith}
 use borrow.Author.Needs.{needs}
-use Rattle.dimacs.proofs.Cells.{area-fits}
+use Rattle.lines.proofs.Cells.{area-fits}
 use Rattle.dimacs.proofs.Replies.{refusal-replies}
 use Rattle.dimacs.proofs.refuse.Statement.{statement}
 use Rattle.dimacs.proofs.refuse.Tie as tie

@@ -6,8 +6,8 @@ use native.Mathlib.Omega.{arith}
 use borrow.Author.Tests.{lt-ltb, le-ltb, eq-eqb, ne-eqb}
 use Rattle.model.specs.Calls.{refuse}
 use Rattle.graph.proofs.Refusals.{table-accepted}
-use Rattle.query.specs.Numbers.{settingsOf}
-use Rattle.query.proofs.Refusals.{query-table, query-settings, query-lengths}
+use Rattle.isolation.specs.Numbers.{settingsOf}
+use Rattle.isolation.proofs.Refusals.{query-table, query-settings, query-lengths}
 use borrow.Author.Needs.{needs}
 use Rattle.query.proofs.query_refusal.Statement.{statement}
 use Rattle.query.proofs.query_refusal.Tie as tie

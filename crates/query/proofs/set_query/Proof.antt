@@ -5,7 +5,7 @@ use mathlib.Core.Path.{_≡_, refl, sym, ap, _∙_}
 use native.Mathlib.Omega.{arith}
 use lib.ListN.{length}
 use Rattle.model.specs.Below.{bit}
-use Rattle.query.proofs.Refusals.{query-accepted}
+use Rattle.isolation.proofs.Refusals.{query-accepted}
 use Rattle.query.proofs.Answer.{answer-refused, answer-decided}
 use borrow.Author.Needs.{needs}
 use Rattle.query.proofs.set_query.Statement.{statement}

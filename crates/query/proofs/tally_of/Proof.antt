@@ -4,8 +4,8 @@ use Prim.Native.Nat.{_+_, _-_, _*_, _≤_}
 use mathlib.Core.Path.{_≡_, ap}
 use native.Mathlib.Omega.{arith}
 use lib.ListN.{getD}
-use Rattle.query.specs.declared.Tally.{Tally}
-use Rattle.query.specs.Parts.{part}
+use Rattle.isolation.specs.declared.Tally.{Tally}
+use Rattle.larger.specs.Parts.{part}
 use Rattle.query.proofs.Members.{TalliesFirst, tallies-none, tallies-more, tallies-all}
 use Rattle.query.proofs.tally_of.Statement.{statement}
 use Rattle.query.proofs.tally_of.Tie as tie

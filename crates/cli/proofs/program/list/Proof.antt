@@ -3,8 +3,8 @@ use mathlib.Core.Path.{sym}
 use native.Mathlib.Omega.{arith}
 use lib.ListN.{replicate}
 use lib.Seq.{length-take-le}
-use Rattle.cli.proofs.Put.{puts-length}
-use Rattle.cli.proofs.Paging.{fresh-part}
+use Rattle.print.proofs.Places.{puts-length}
+use Rattle.listing.proofs.Paging.{fresh-part}
 use borrow.Author.Needs.{needs}
 use Rattle.cli.proofs.program.list.Statement.{statement}
 use Rattle.cli.proofs.program.list.Tie as tie

@@ -2,7 +2,7 @@
 use mathlib.Core.Path.{sym}
 use native.Mathlib.Omega.{arith}
 use lib.Seq.{length-take-le}
-use Rattle.cli.proofs.Put.{puts-length}
+use Rattle.print.proofs.Places.{puts-length}
 use borrow.Author.Needs.{needs}
 use Rattle.cli.proofs.program.refuse.Statement.{statement}
 use Rattle.cli.proofs.program.refuse.Tie as tie

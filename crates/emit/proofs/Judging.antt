@@ -1,0 +1,290 @@
+-- Whether the taken set qualifies, test by test: what each test of the page's function says of every position for which the state stands.
+-- Assumes nothing.
+use Prim.Native.Nat.{ℕ, zero, suc, _+_, _-_, _*_, _≤_, _<_}
+use mathlib.Core.Path.{_≡_, refl, sym, ap, ap₂, _∙_, subst}
+use mathlib.Core.Bool.{Bool, true, false, _&&_, not, true≢false}
+use mathlib.Core.List.{List, map}
+use native.Mathlib.Nat.{add-zero}
+use native.Mathlib.Omega.{arith}
+use lib.ListN.{length, getD}
+use borrow.Author.Tests.{eqb-true}
+use Rattle.model.specs.Below.{bit, count}
+use Rattle.model.specs.Graph.{Graph, onVertices, byTable, degree, vertexAt}
+use Rattle.model.specs.Walk.{Position, has, found}
+use Rattle.model.specs.Listing.{is, adjacent, pivot, apart, takenSet, takenList, rules}
+use Rattle.theory.specs.Search.{Loopless, Symmetric, Candidates}
+use Rattle.theory.proofs.basics.Tests.{test-and, test-self, fails}
+use Rattle.theory.proofs.basics.Passing.{taken-members, passing-listed}
+use Rattle.theory.proofs.basics.PassingParts.{passing-count}
+use Rattle.graph.proofs.Work.{table-size}
+use Rattle.graph.proofs.Refusals.{table-accepted}
+use Rattle.isolation.specs.declared.Settings.{Settings}
+use Rattle.isolation.specs.declared.Tally.{Tally}
+use Rattle.isolation.specs.Numbers.{settingsOf, isolatedOf, beatenOf, TallyOf}
+use Rattle.larger.specs.Parts.{part, Kept}
+use Rattle.larger.specs.Search.{Lent, Posed, Tested}
+use Rattle.larger.proofs.Parts.{part-below, part-above}
+use Rattle.walk.specs.declared.State.{State}
+use Rattle.walk.specs.State.{takenRanks, leftRanks, Stands}
+use Rattle.emit.specs.Qualify.{joinedOf, candidatesOf, Sifts, Sifted, tallyOf, readTally, TallyFits, Asks, Judged}
+use Rattle.walk.proofs.Decided.{taken-length}
+use Rattle.walk.proofs.Standing.{taken-count, left-count, vertex-entry, left-entry}
+use Rattle.emit.proofs.Found.{taken-tally, taken-clique, taken-candidates, found-apart, found-untaken, found-open, found-by}
+
+-- two tests of which no number passes both pass no more than n numbers below n
+count-apart : (n : ℕ) (p q : ℕ → Bool) → ((i : ℕ) → p i ≡ true → q i ≡ false) → count n p + count n q ≤ n
+unfolding count
+count-apart zero p q f = omega arith
+count-apart (suc n) p q f = go (p n) (q n) (f n) (count-apart n p q f)
+  where
+    go : (a b : Bool) → (a ≡ true → b ≡ false) → count n p + count n q ≤ n → (bit a + count n p) + (bit b + count n q) ≤ suc n
+    go true true d h = absurd (true≢false (d refl))
+    go true false d h = omega arith
+    go false true d h = omega arith
+    go false false d h = omega arith
+
+-- the taken ranks and the left neighbours of the pivot are no more than all ranks
+ranks-fit : (G : Graph) (p : Position) → length (takenRanks G p) + length (leftRanks G p) ≤ G .size
+unfolding takenRanks leftRanks
+ranks-fit G p =
+    let a = passing-count (G .size) (is 1 p) in
+    let b = passing-count (G .size) (λ r. has 1 p && is 2 p r && adjacent G (pivot G p) r) in
+    let k = count-apart (G .size) (is 1 p) (λ r. has 1 p && is 2 p r && adjacent G (pivot G p) r)
+    (λ r e.
+    fails _
+    (λ f.
+    let two = eqb-true (getD p r 0) 2 (test-and {a = has 1 p} test-self test-self .0 (test-and {a = has 1 p && is 2 p r} test-self test-self .0 f .0) .1) in
+    let one = eqb-true (getD p r 0) 1 e in
+    omega arith)) in
+    omega arith
+
+-- the state stands for a position as long as the parts in use are kept
+module _ (G : Graph) (p : Position) (s : State) (w w₁ : List ℕ) (h : Stands G p w s) where
+  stands-by : length w₁ ≡ length w → part w₁ 0 (s .taken) ≡ part w 0 (s .taken) → part w₁ (G .size) (s .taken) ≡ part w (G .size) (s .taken)
+      → part w₁ (2 * G .size) (s .left) ≡ part w (2 * G .size) (s .left) → Stands G p w₁ s
+  stands-by e a b c =
+      record {
+        long = h .long;
+        room = let r = h .room in omega arith;
+        bound = h .bound;
+        taken-bound = h .taken-bound;
+        left-bound = h .left-bound;
+        bytes = h .bytes;
+        decided = h .decided;
+        still-open = h .still-open;
+        ranks = a ∙ h .ranks;
+        vertices = b ∙ h .vertices;
+        left = c ∙ h .left;
+        sum = h .sum;
+        apart = h .apart;
+      }
+
+  pub stands-above : Kept (3 * G .size) (4 * G .size) w w₁ → Stands G p w₁ s
+  stands-above k =
+      let a = h .bound in
+      let b = h .taken-bound in
+      let c = h .left-bound in
+      stands-by (k .length-kept)
+      (part-below (3 * G .size) (4 * G .size) w w₁ k 0 (s .taken) (omega arith))
+      (part-below (3 * G .size) (4 * G .size) w w₁ k (G .size) (s .taken) (omega arith))
+      (part-below (3 * G .size) (4 * G .size) w w₁ k (2 * G .size) (s .left) (omega arith))
+
+  pub stands-past : Kept (G .size + s .taken) (2 * G .size) w w₁ → Stands G p w₁ s
+  stands-past k =
+      let a = h .bound in
+      let b = h .taken-bound in
+      stands-by (k .length-kept)
+      (part-below (G .size + s .taken) (2 * G .size) w w₁ k 0 (s .taken) (omega arith))
+      (part-below (G .size + s .taken) (2 * G .size) w w₁ k (G .size) (s .taken) (omega arith))
+      (part-above (G .size + s .taken) (2 * G .size) w w₁ k (2 * G .size) (s .left) (omega arith))
+
+-- the first and the last taken vertex are vertices
+module _ {n : ℕ} {ranks w : List ℕ} {s : State} (f : TallyFits n ranks w s) where
+  pub first-below : getD w n 0 < n
+  first-below = let l = f .vertices 0 (f .some) in let e = ap (λ (k : ℕ). getD w k 0) (add-zero n) in omega arith
+
+  pub last-below : getD w (n + (s .taken - 1)) 0 < n
+  last-below = let h = f .some in f .vertices (s .taken - 1) (omega arith)
+
+-- numbers are equal where their four parts are
+same-tally : (x y : Tally) → x .members ≡ y .members → x .sum ≡ y .sum → x .least ≡ y .least → x .largest ≡ y .largest → x ≡ y
+same-tally x y a b c d i = record { members = a i; sum = b i; least = c i; largest = d i }
+
+module _ {n : ℕ} {t ranks w : List ℕ} {q : Settings} {s : State} (a : Asks n t ranks w q s) where
+  abbrev G : Graph
+  G = byTable n t
+
+  abbrev p₀ : Position
+  p₀ = a .stands .0
+
+  h₀ : Stands G p₀ w s
+  h₀ = a .stands .1
+
+  loopless : Loopless G
+  unfolding byTable onVertices
+  loopless = table-accepted n t (a .accepted) .no-loop
+
+  symmetric : Symmetric G
+  unfolding byTable onVertices
+  symmetric = table-accepted n t (a .accepted) .both-ways
+
+  pub taken-few : s .taken ≤ n
+  taken-few = let z = table-size n t in let b = h₀ .bound in let c = h₀ .taken-bound in omega arith
+
+  vertices-below : (i : ℕ) → i < s .taken → getD w (n + i) 0 < n
+  unfolding byTable onVertices
+  vertices-below i l =
+      let e = vertex-entry G p₀ w s h₀ i l in
+      let c = taken-count G p₀ w s h₀ in
+      let k = taken-length G p₀ in
+      let v = taken-members G p₀ .sound i (omega arith) .0 in
+      omega arith
+
+  -- ---- what the tests say
+
+  still : ((p : Position) → Stands G p w s → false ≡ found (rules G (settingsOf q)) p) → Judged n t w w q s false
+  still f = record { answer = f; stands = λ p h. h; length-kept = refl }
+
+  pub judged-open : s .decided < n → Judged n t w w q s false
+  judged-open l =
+      still (λ p h. let z = table-size n t in let e = h .long in sym (found-open G p (settingsOf q) (s .decided) (omega arith) (h .still-open (s .decided) (omega arith))))
+
+  pub length-taken : (p : Position) → Stands G p w s → length (takenList G p) ≡ s .taken
+  length-taken p h = taken-length G p ∙ taken-count G p w s h
+
+  pub judged-untaken : s .taken ≡ 0 → Judged n t w w q s false
+  judged-untaken e = still (λ p h. sym (found-untaken G p (settingsOf q) (length-taken p h ∙ e)))
+
+  pub judged-apart : s .apart ≡ true → Judged n t w w q s false
+  judged-apart e = still (λ p h. sym (found-apart G p (settingsOf q) (sym (h .apart) ∙ e)))
+
+  module _ (all : n ≤ s .decided) (some : 0 < s .taken) (met : s .apart ≡ false) where
+    pub tally-fits : TallyFits n ranks w s
+    tally-fits =
+        record {
+          small = a .ranked .fits .small;
+          ranks-fit = a .ranked .room;
+          work-fits = let r = h₀ .room in let z = table-size n t in omega arith;
+          some = some;
+          few = taken-few;
+          vertices = vertices-below;
+        }
+
+    -- what is read is the taken set's numbers
+    tally-is : (p : Position) → Stands G p w s → readTally n ranks w s ≡ tallyOf G p
+    unfolding byTable onVertices
+    tally-is p h =
+        let l = length-taken p h in
+        let first = vertex-entry G p w s h 0 some in
+        let last = vertex-entry G p w s h (s .taken - 1) (omega arith) in
+        let zero-in = ap (λ (k : ℕ). getD w k 0) (sym (add-zero n)) in
+        let low = vertices-below 0 some in
+        let high = vertices-below (s .taken - 1) (omega arith) in
+        same-tally _ _
+        (sym l)
+        (h .sum)
+        (a .ranked .degrees (getD w n 0) (omega arith) ∙ ap (degree G) (zero-in ∙ first))
+        (a .ranked .degrees (getD w (n + (s .taken - 1)) 0) high ∙ ap (degree G) (last ∙ ap (λ (k : ℕ). getD (takenList G p) (k - 1) 0) (sym l)))
+
+    some-listed : (p : Position) → Stands G p w s → 0 < length (takenList G p)
+    some-listed p h = let l = length-taken p h in omega arith
+
+    all-decided : (p : Position) → Stands G p w s → (r : ℕ) → r < G .size → (getD p r 0 ≡ 0 → ⊥)
+    all-decided p h r l = let z = table-size n t in h .decided r (omega arith)
+
+    found-is : (p : Position) → Stands G p w s
+        → found (rules G (settingsOf q)) p ≡ (isolatedOf q (tallyOf G p) && not (beatenOf G q (tallyOf G p) (candidatesOf G p)))
+    found-is p h =
+        found-by G p (h .long) (h .bytes) (all-decided p h) (some-listed p h) loopless symmetric (settingsOf q) (sym (h .apart) ∙ met)
+
+    module _ (y : Tally) (e : y ≡ readTally n ranks w s) where
+      isolated-is : (p : Position) → Stands G p w s → isolatedOf q (tallyOf G p) ≡ isolatedOf q y
+      isolated-is p h = ap (isolatedOf q) (sym (e ∙ tally-is p h))
+
+      -- the taken set is not isolated
+      pub judged-exposed : isolatedOf q y ≡ false → Judged n t w w q s false
+      judged-exposed f =
+          still (λ p h. sym (found-is p h ∙ ap (λ (b : Bool). b && not (beatenOf G q (tallyOf G p) (candidatesOf G p))) (isolated-is p h ∙ f)))
+
+      -- ---- the common neighbours
+
+      left-few : s .left ≤ n
+      left-few = let z = table-size n t in let b = h₀ .bound in let c = h₀ .left-bound in omega arith
+
+      pub sifts : Sifts n t ranks w (s .taken) (s .left)
+      unfolding byTable onVertices leftRanks
+      sifts =
+          record {
+            ranked = a .ranked;
+            room = h₀ .room;
+            few-taken = taken-few;
+            few-left = left-few;
+            vertices = vertices-below;
+            left-ranks = λ i l.
+                let e = left-entry G p₀ w s h₀ i l in
+                let c = left-count G p₀ w s h₀ in
+                let r = left-below p₀ i (omega arith) in
+                omega arith;
+          }
+        where
+          left-below : (p : Position) (i : ℕ) → i < length (leftRanks G p) → getD (leftRanks G p) i 0 < n
+          left-below p i l = passing-listed (λ r. has 1 p && is 2 p r && adjacent G (pivot G p) r) n (getD (leftRanks G p) i 0) (i, l, refl) .0
+
+      module _ {w₁ : List ℕ} {m : ℕ} (f : Sifted n t w w₁ (s .taken) (s .left) m) where
+        candidates-are : (p : Position) → Stands G p w s → part w₁ (3 * n) m ≡ candidatesOf G p
+        unfolding candidatesOf byTable onVertices
+        candidates-are p h = f .holds ∙ ap₂ (λ (us vs : List ℕ). joinedOf G us (map (vertexAt G) vs)) (h .vertices) (h .left)
+
+        pub lent : Lent n t ranks w₁
+        lent =
+            let r = h₀ .room in
+            let z = table-size n t in
+            let k = f .kept .length-kept in
+            record {
+              table = a .ranked .fits;
+              ranks-fit = record { small = a .ranked .fits .small; parts = a .ranked .room };
+              degrees = a .ranked .degrees;
+              parts = omega arith;
+            }
+
+        pub posed : Posed n t w₁ q y m
+        posed =
+            record {
+              set = takenSet G p₀;
+              factor = a .factor;
+              room = room-left;
+              loopless = loopless;
+              symmetric = symmetric;
+              clique = taken-clique G p₀ (some-listed p₀ h₀) symmetric (sym (h₀ .apart) ∙ met);
+              tally = subst (λ (x : Tally). TallyOf G (takenSet G p₀) x) (sym (e ∙ tally-is p₀ h₀)) (taken-tally G p₀ (some-listed p₀ h₀));
+              candidates =
+                  subst (λ (vs : List ℕ). Candidates G (takenSet G p₀) vs) (sym (candidates-are p₀ h₀))
+                  (taken-candidates G p₀ (h₀ .long) (h₀ .bytes) (all-decided p₀ h₀) (some-listed p₀ h₀) loopless symmetric);
+            }
+          where
+            room-left : y .members + m ≤ n
+            room-left =
+                let k = ap (λ (x : Tally). x .members) e in
+                let c = taken-count G p₀ w s h₀ in
+                let d = left-count G p₀ w s h₀ in
+                let r = ranks-fit G p₀ in
+                let z = table-size n t in
+                let g = f .fewer in
+                omega arith
+
+        -- an isolated taken set: it qualifies where it is not beaten
+        pub judged-by : isolatedOf q y ≡ true → {w₂ : List ℕ} {b : Bool} → Tested n t w₁ w₂ q y m b → Judged n t w w₂ q s (not b)
+        unfolding byTable onVertices
+        judged-by i {w₂} {b} x =
+            record {
+              answer = λ p h.
+                  ap not (x .answer ∙ ap₂ (λ (z : Tally) (vs : List ℕ). beatenOf G q z vs) (e ∙ tally-is p h) (candidates-are p h))
+                  ∙ sym (found-is p h ∙ ap (λ (d : Bool). d && not (beatenOf G q (tallyOf G p) (candidatesOf G p))) (isolated-is p h ∙ i));
+              stands = λ p h. after-both p h;
+              length-kept = x .kept .length-kept ∙ f .kept .length-kept;
+            }
+          where
+            after-both : (p : Position) → Stands G p w s → Stands G p w₂ s
+            after-both p h =
+                stands-past G p s w₁ w₂ (stands-above G p s w w₁ h (f .kept))
+                (subst (λ (k : ℕ). Kept (n + k) (2 * n) w₁ w₂) (ap (λ (z : Tally). z .members) e) (x .kept))

@@ -1,0 +1,50 @@
+-- `page::group::put_group` meets its contract: the unused part of the output, lent from its middle, comes back with the group at its start.
+-- Assumes nothing.
+use Prim.Native.Nat.{_+_}
+use mathlib.Core.Path.{_≡_, _∙_}
+use mathlib.Core.List.{_∷_}
+use native.Mathlib.Omega.{arith}
+use Rattle.walk.specs.State.{part}
+use Rattle.emit.proofs.Groups.{tail-at}
+use borrow.Author.Needs.{needs}
+use Rattle.emit.proofs.group.put_group.Statement.{statement}
+use Rattle.emit.proofs.group.put_group.Tie as tie
+
+mul-write-group : tie.Need-mul-write-group
+mul-write-group c = search needs
+
+sub-write-group : tie.Need-sub-write-group
+sub-write-group c = search needs
+
+part-write-group-start : tie.Need-part-write-group-start
+part-write-group-start c = search needs
+
+part-write-group-end : tie.Need-part-write-group-end
+part-write-group-end c = search needs
+
+write-group-requires : tie.Need-write-group-requires
+write-group-requires c κs = search needs
+
+same-length : tie.Need-same-length
+same-length c = search needs
+
+returns : tie.Need-returns
+returns c =
+    let b = c .before .before .before .before .before .before in
+    let a = b .args in
+    let n : a .used + (a .k + 1) ≡ a .used + a .k + 1 = omega arith in
+    tail-at (a .output .now) (a .k ∷ part (a .work .now) (a .from) (a .k)) (c .before .before .write-group .last .0) (a .used) (a .k + 1) (omega arith)
+    (c .before .before .write-group .ensures)
+    ∙ rw n
+
+pub put-group-spec : {M : Type 1} → statement M
+put-group-spec =
+    tie.close
+    (tie.spec
+    mul-write-group
+    sub-write-group
+    part-write-group-start
+    part-write-group-end
+    write-group-requires
+    same-length
+    returns)

@@ -1,0 +1,3 @@
+-- Specs.
+pub mod Qualify
+pub mod Emit

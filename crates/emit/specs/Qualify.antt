@@ -1,0 +1,84 @@
+-- Which vertices can be added to the taken ones, and whether the taken set qualifies, as the page computes them.
+-- Assumes nothing.
+use Prim.Native.Nat.{ℕ, _+_, _-_, _*_, _≤_, _<_}
+use mathlib.Core.Path.{_≡_}
+use mathlib.Core.Bool.{Bool, cond}
+use mathlib.Core.List.{List, [], _∷_, map}
+use lib.ListN.{length, getD}
+use Rattle.model.specs.Graph.{Graph, byTable, degree, vertexAt}
+use Rattle.model.specs.Walk.{Position, found}
+use Rattle.model.specs.Listing.{takenList, rules}
+use Rattle.model.specs.Calls.{refuseTable}
+use Rattle.theory.specs.Search.{joinedAll}
+use Rattle.isolation.specs.declared.Settings.{Settings}
+use Rattle.isolation.specs.declared.Tally.{Tally}
+use Rattle.isolation.specs.Numbers.{settingsOf}
+use Rattle.larger.specs.Parts.{part, Kept, HoldsVertices}
+use Rattle.walk.specs.declared.State.{State}
+use Rattle.walk.specs.State.{leftRanks, degreesOf, Ranked, Stands, StandsForOne}
+
+-- those of the vertices vs that are joined to each of the vertices us, in their order
+unfoldable pub joinedOf : Graph → List ℕ → List ℕ → List ℕ
+joinedOf G us [] = []
+joinedOf G us (v ∷ vs) = let rest = joinedOf G us vs in cond (joinedAll G v us) (v ∷ rest) rest
+
+-- the left neighbours of the pivot that are joined to each taken vertex
+unfoldable pub candidatesOf : Graph → Position → List ℕ
+candidatesOf G p = joinedOf G (takenList G p) (map (vertexAt G) (leftRanks G p))
+
+-- what `candidates` asks for: the graph's ranks, taken vertices in part 1 of the work slice and left ranks in part 2
+pub record Sifts (n : ℕ) (t ranks w : List ℕ) (taken left : ℕ) : Type 0 where
+  pub ranked : Ranked n t ranks
+  pub room : 8 * n ≤ length w
+  pub few-taken : taken ≤ n
+  pub few-left : left ≤ n
+  pub vertices : HoldsVertices n w n taken
+  pub left-ranks : HoldsVertices n w (2 * n) left
+
+-- what it leaves: m vertices in part 3, those of the left ones that are joined to each taken one
+pub record Sifted (n : ℕ) (t before after : List ℕ) (taken left m : ℕ) : Type 0 where
+  pub fewer : m ≤ left
+  pub holds : part after (3 * n) m ≡ joinedOf (byTable n t) (part before n taken) (map (vertexAt (byTable n t)) (part before (2 * n) left))
+  pub kept : Kept (3 * n) (4 * n) before after
+
+-- the taken set's numbers: how many, the sum of their degrees, the least, which is the first one's, and the largest, which is the last one's
+abbrev pub tallyOf : Graph → Position → Tally
+tallyOf G p =
+    record {
+      members = length (takenList G p);
+      sum = degreesOf G (takenList G p);
+      least = degree G (getD (takenList G p) 0 0);
+      largest = degree G (getD (takenList G p) (length (takenList G p) - 1) 0);
+    }
+
+-- the same as code reads them off the state, the degrees in part 1 of the ranks and the taken vertices in part 1 of the work slice
+abbrev pub readTally : ℕ → List ℕ → List ℕ → State → Tally
+readTally n ranks w s =
+    record {
+      members = s .taken;
+      sum = s .sum;
+      least = getD ranks (n + getD w n 0) 0;
+      largest = getD ranks (n + getD w (n + (s .taken - 1)) 0) 0;
+    }
+
+-- what reading them asks for
+pub record TallyFits (n : ℕ) (ranks w : List ℕ) (s : State) : Type 0 where
+  pub small : n ≤ 1024
+  pub ranks-fit : 2 * n ≤ length ranks
+  pub work-fits : 8 * n ≤ length w
+  pub some : 0 < s .taken
+  pub few : s .taken ≤ n
+  pub vertices : HoldsVertices n w n (s .taken)
+
+-- what `qualifies` asks for: an accepted table with its ranks, a factor that is not refused, and a state that stands for a position
+pub record Asks (n : ℕ) (t ranks w : List ℕ) (q : Settings) (s : State) : Type 0 where
+  pub ranked : Ranked n t ranks
+  pub accepted : refuseTable n t 0 ≡ 0
+  pub factor : q .factor ≤ 1024
+  pub stands : StandsForOne (byTable n t) w s
+
+-- its answer for each position for which the state stands, and that the state still stands for it
+pub record Judged (n : ℕ) (t before after : List ℕ) (q : Settings) (s : State) (r : Bool) : Type 0 where
+  pub answer : (p : Position) → Stands (byTable n t) p before s → r ≡ found (rules (byTable n t) (settingsOf q)) p
+  pub stands : (p : Position) → Stands (byTable n t) p before s → Stands (byTable n t) p after s
+  pub length-kept : length after ≡ length before

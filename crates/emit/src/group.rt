@@ -1,0 +1,41 @@
+// The group writer: a group goes right after the output entries already used.
+ghost use mathlib.Core.Path.{_≡_};
+ghost use mathlib.Core.List.{_∷_, _++_};
+ghost use Prim.Native.Nat.{_+_, _≤_};
+ghost use lib.ListN.{length, take, drop};
+ghost use Rattle.walk.specs.State.{part};
+
+// The entry for a group's size.
+fn size_entry(k: usize) -> u16
+    requires { ⌜ k ≤ 1024 ⌝ }
+    ensures { λ r. ⌜ r ≡ k ⌝ }
+{
+    k as u16
+}
+
+// Writes a group of k vertices at the start of out: its size and then the k vertices that stand in work from entry `from` on. The rest of out keeps
+// its contents.
+fn write_group(out: &mut [u16], work: &[u16], from: usize, k: usize)
+    requires { ⌜ (k + 1 ≤ length (now out)) × (from + k ≤ length (now work)) × (k ≤ 1024) ⌝ }
+    ensures { λ _. ⌜ now (out .exit) ≡ (k ∷ part (now (work .entry)) from k) ++ drop (k + 1) (now (out .entry)) ⌝ }
+{
+    out[0] = size_entry(k);
+    let mut i = 0;
+    while i < k {
+        out[1 + i] = work[from + i];
+        i += 1;
+    }
+}
+
+// Writes a group of k vertices into the output right after its first `used` entries, and nothing else of it: lends the unused part of the output to
+// `write_group`.
+pub fn put_group(output: &mut [u16], used: usize, work: &[u16], from: usize, k: usize)
+    requires { ⌜ (used + k + 1 ≤ length (now output)) × (from + k ≤ length (now work)) × (k ≤ 1024) ⌝ }
+    ensures { λ _. ⌜
+        now (output .exit)
+        ≡ take used (now (output .entry)) ++ (k ∷ part (now (work .entry)) from k) ++ drop (used + k + 1) (now (output .entry))
+        ⌝ }
+{
+    let start = used;
+    write_group(&mut output[start..], work, from, k);
+}

@@ -1,0 +1,92 @@
+// Whether the taken set of a position qualifies.
+ghost use mathlib.Core.Path.{_≡_};
+ghost use Rattle.emit.specs.Qualify.{Sifts, Sifted, readTally, TallyFits, Asks, Judged};
+use walk::State;
+use isolation::Settings;
+use isolation::Tally;
+use larger::beaten;
+use isolation::isolated_by;
+use larger::joined_to_all;
+
+// Writes those of the left neighbours of the pivot, whose ranks are the first `left` entries of part 2 of work, that are joined to each taken vertex, the
+// first `taken` entries of part 1, into part 3, and says how many. Writes nothing else.
+fn candidates(
+    table: &[u8],
+    ranks: &[u16],
+    work: &mut [u16],
+    n: usize,
+    taken: usize,
+    left: usize,
+) -> usize
+    requires { ⌜ Sifts n (now table) (now ranks) (now work) taken left ⌝ }
+    ensures { λ r. ⌜ Sifted n (now (table .entry)) (now (work .entry)) (now (work .exit)) taken left r ⌝ }
+{
+    let end = n + taken;
+    let mut m: usize = 0;
+    let mut j = 0;
+    while j < left {
+        let r = work[2 * n + j] as usize;
+        let x = ranks[r];
+        let v = x as usize;
+        if joined_to_all(table, n, work, v, n, end) {
+            work[3 * n + m] = x;
+            m += 1;
+        }
+        j += 1;
+    }
+    m
+}
+
+// The numbers of the taken set: their number and the sum of their degrees are kept in the state, the first taken vertex has the least degree and the last
+// the largest. Reads two entries of work and two of ranks.
+fn numbers(s: State, ranks: &[u16], work: &[u16], n: usize) -> Tally
+    requires { ⌜ TallyFits n (now ranks) (now work) s ⌝ }
+    ensures { λ r. ⌜ r ≡ readTally n (now (ranks .entry)) (now (work .entry)) s ⌝ }
+{
+    let k = s.taken;
+    let sum = s.sum;
+    let first = work[n] as usize;
+    let last = work[n + (k - 1)] as usize;
+    let least = ranks[n + first] as usize;
+    let largest = ranks[n + last] as usize;
+    Tally {
+        members: k,
+        sum,
+        least,
+        largest,
+    }
+}
+
+// Whether all ranks are decided and the taken set qualifies, of a position that the state and the work slice stand for. Writes part 3 of work, and part 1
+// past the taken vertices.
+pub fn qualifies(
+    s: State,
+    q: Settings,
+    table: &[u8],
+    ranks: &[u16],
+    work: &mut [u16],
+    n: usize,
+) -> bool
+    requires { ⌜ Asks n (now table) (now ranks) (now work) q s ⌝ }
+    ensures { λ r. ⌜ Judged n (now (table .entry)) (now (work .entry)) (now (work .exit)) q s r ⌝ }
+{
+    let d = s.decided;
+    let k = s.taken;
+    let left = s.left;
+    let apart = s.apart;
+    if d < n {
+        return false;
+    }
+    if k == 0 {
+        return false;
+    }
+    if apart {
+        return false;
+    }
+    let y = numbers(s, ranks, work, n);
+    if !isolated_by(q, y) {
+        return false;
+    }
+    let m = candidates(table, ranks, work, n, k, left);
+    !beaten(table, ranks, work, n, q, y, m)
+}

@@ -1,0 +1,3 @@
+-- Laws.
+pub mod Numbers
+pub mod Refusals

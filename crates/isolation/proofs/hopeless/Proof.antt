@@ -1,0 +1,76 @@
+-- `query::hopeless` meets its contract: a test for each notion.
+-- Assumes nothing.
+use native.Mathlib.Omega.{arith}
+use Rattle.isolation.proofs.Numbers.{product-small, hopeless-min, hopeless-avg, hopeless-max}
+use borrow.Author.Needs.{needs}
+use Rattle.isolation.proofs.hopeless.Statement.{statement}
+use Rattle.isolation.proofs.hopeless.Tie as tie
+
+add-all : tie.Need-add-all
+add-all c = search needs
+
+less-requires : tie.Need-less-requires
+less-requires c κs = search needs
+
+returns : tie.Need-returns
+returns c =
+    let start = c .before .before .before .before in
+    let s = start .args .s in
+    let t = start .args .t in
+    hopeless-min (s .notion) (s .factor) (t .members) (start .args .r) (t .sum) (t .largest) (c .if1 .taken)
+
+mul-less : tie.Need-mul-less
+mul-less c =
+    let others = c .before .before .before .before .before in
+    let start = others .before .before in
+    let o = others .less .ensures in
+    let k = start .pre .members in
+    omega (arith, product-small (start .args .t .members) (others .less .result) (omega arith) (omega arith))
+
+less-requires-2 : tie.Need-less-requires-2
+less-requires-2 c κs = search needs
+
+within-requires : tie.Need-within-requires
+within-requires c κs = search needs
+
+returns-2 : tie.Need-returns-2
+returns-2 c =
+    let avg = c .before .before .before in
+    let others = avg .before .before .before .before in
+    let start = others .before .before in
+    let s = start .args .s in
+    let t = start .args .t in
+    hopeless-avg (s .notion) (s .factor) (t .members) (start .args .r) (t .sum) (t .largest) (avg .if2 .taken) (others .less .ensures)
+    (c .before .less2 .ensures) (c .within .ensures)
+
+less-requires-3 : tie.Need-less-requires-3
+less-requires-3 c κs = search needs
+
+within-requires-2 : tie.Need-within-requires-2
+within-requires-2 c κs = search needs
+
+returns-3 : tie.Need-returns-3
+returns-3 c =
+    let max = c .before .before in
+    let min = max .before .before in
+    let others = min .before .before in
+    let start = others .before .before in
+    let s = start .args .s in
+    let t = start .args .t in
+    hopeless-max (s .notion) (s .factor) (t .members) (start .args .r) (t .sum) (t .largest) (min .if1 .left) (max .if2 .left)
+    (others .less .ensures) (c .before .less3 .ensures) (c .within2 .ensures)
+
+pub hopeless-spec : {M : Type 1} → statement M
+hopeless-spec =
+    tie.close
+    (tie.spec
+    add-all
+    less-requires
+    returns
+    mul-less
+    less-requires-2
+    within-requires
+    returns-2
+    less-requires-3
+    within-requires-2
+    returns-3)

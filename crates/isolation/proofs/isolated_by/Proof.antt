@@ -1,0 +1,83 @@
+-- `query::isolated_by` meets its contract: a test for each notion.
+-- Assumes nothing.
+use native.Mathlib.Omega.{arith}
+use Rattle.isolation.proofs.Numbers.{product-small, isolated-min, isolated-avg, isolated-max}
+use borrow.Author.Needs.{needs}
+use Rattle.isolation.proofs.isolated_by.Statement.{statement}
+use Rattle.isolation.proofs.isolated_by.Tie as tie
+
+less-requires : tie.Need-less-requires
+less-requires c κs = search needs
+
+less-requires-2 : tie.Need-less-requires-2
+less-requires-2 c κs = search needs
+
+within-requires : tie.Need-within-requires
+within-requires c κs = search needs
+
+returns : tie.Need-returns
+returns c =
+    let min = c .before .before in
+    let others = min .before .before in
+    let start = others .before in
+    let s = start .args .s in
+    let t = start .args .t in
+    isolated-min (s .notion) (s .factor) (t .members) (t .sum) (t .least) (t .largest) (min .if1 .taken) (others .less .ensures)
+    (c .before .less2 .ensures) (c .within .ensures)
+
+mul-less : tie.Need-mul-less
+mul-less c =
+    let others = c .before .before .before .before .before in
+    let start = others .before in
+    let o = others .less .ensures in
+    let k = start .pre .members in
+    omega (arith, product-small (start .args .t .members) (others .less .result) k (omega arith))
+
+less-requires-3 : tie.Need-less-requires-3
+less-requires-3 c κs = search needs
+
+within-requires-2 : tie.Need-within-requires-2
+within-requires-2 c κs = search needs
+
+returns-2 : tie.Need-returns-2
+returns-2 c =
+    let avg = c .before .before .before in
+    let others = avg .before .before .before .before in
+    let start = others .before in
+    let s = start .args .s in
+    let t = start .args .t in
+    isolated-avg (s .notion) (s .factor) (t .members) (t .sum) (t .least) (t .largest) (avg .if2 .taken) (others .less .ensures)
+    (c .before .less3 .ensures) (c .within2 .ensures)
+
+less-requires-4 : tie.Need-less-requires-4
+less-requires-4 c κs = search needs
+
+within-requires-3 : tie.Need-within-requires-3
+within-requires-3 c κs = search needs
+
+returns-3 : tie.Need-returns-3
+returns-3 c =
+    let max = c .before .before in
+    let min = max .before .before in
+    let others = min .before .before in
+    let start = others .before in
+    let s = start .args .s in
+    let t = start .args .t in
+    isolated-max (s .notion) (s .factor) (t .members) (t .sum) (t .least) (t .largest) (min .if1 .left) (max .if2 .left)
+    (others .less .ensures) (c .before .less4 .ensures) (c .within3 .ensures)
+
+pub isolated-by-spec : {M : Type 1} → statement M
+isolated-by-spec =
+    tie.close
+    (tie.spec
+    less-requires
+    less-requires-2
+    within-requires
+    returns
+    mul-less
+    less-requires-3
+    within-requires-2
+    returns-2
+    less-requires-4
+    within-requires-3
+    returns-3)

@@ -1,0 +1,4 @@
+-- Laws.
+pub mod Parts
+pub mod Turn
+pub mod Maximal

@@ -1,0 +1,3 @@
+-- Specs.
+pub mod Parts
+pub mod Search

@@ -1,0 +1,57 @@
+-- What the search for a larger isolated clique requires and leaves behind.
+-- Assumes nothing.
+use Prim.Native.Nat.{ℕ, _+_, _-_, _*_, _≤_}
+use mathlib.Core.Path.{_≡_}
+use mathlib.Core.Bool.{Bool}
+use mathlib.Core.List.{List}
+use lib.ListN.{length, drop}
+use Rattle.model.specs.Graph.{byTable}
+use Rattle.model.specs.Groups.{VertexSet}
+use Rattle.model.specs.Meaning.{Clique}
+use Rattle.theory.specs.Search.{Loopless, Symmetric, Candidates}
+use Rattle.graph.specs.Table.{TableFits}
+use Rattle.graph.specs.Work.{WorkFits, HoldsDegrees}
+use Rattle.isolation.specs.declared.Settings.{Settings}
+use Rattle.isolation.specs.declared.Tally.{Tally}
+use Rattle.isolation.specs.Numbers.{findOf, beatenOf, TallyOf}
+use Rattle.larger.specs.Parts.{part, Kept, HoldsVertices}
+
+-- the table holds a graph of n vertices, the ranks its degrees, and the work slice has the parts 0 to 3
+pub record Lent (n : ℕ) (t ranks w : List ℕ) : Type 0 where
+  pub table : TableFits n t
+  pub ranks-fit : WorkFits n ranks
+  pub degrees : HoldsDegrees n (byTable n t) ranks
+  pub parts : 4 * n ≤ length w
+
+-- A state of the search: of the members with the numbers y those from place base on in part 1 were added by it, and candidates i to m - 1 of part 3
+-- are left. There is room in part 1 for these, and the sum of degrees is small.
+pub record Room (n : ℕ) (w : List ℕ) (s : Settings) (y : Tally) (base i m : ℕ) : Type 0 where
+  pub factor : s .factor ≤ 1024
+  pub from : base ≤ y .members
+  pub left : y .members + (m - i) ≤ n
+  pub few : m ≤ n
+  pub sum : y .sum ≤ 1024 * y .members
+  pub added : HoldsVertices n w (n + base) (y .members - base)
+  pub candidates : HoldsVertices n w (3 * n) m
+
+-- what the search answers, and what it leaves: every entry outside those of part 1 past the members is as it was
+pub record Searched (n : ℕ) (t before after : List ℕ) (s : Settings) (y : Tally) (base i m : ℕ) (r : Bool) : Type 0 where
+  pub answer : r ≡ findOf (byTable n t) s (part before (n + base) (y .members - base)) y (drop i (part before (3 * n) m))
+  pub kept : Kept (n + y .members) (2 * n) before after
+
+-- The question that `beaten` answers: the numbers y are those of a clique in a graph with no loops that is symmetric, and the first m entries of
+-- part 3 are its common neighbours. There is room in part 1 for the members and these.
+pub record Posed (n : ℕ) (t w : List ℕ) (s : Settings) (y : Tally) (m : ℕ) : Type 0 where
+  pub set : VertexSet
+  pub factor : s .factor ≤ 1024
+  pub room : y .members + m ≤ n
+  pub loopless : Loopless (byTable n t)
+  pub symmetric : Symmetric (byTable n t)
+  pub clique : Clique (byTable n t) set
+  pub tally : TallyOf (byTable n t) set y
+  pub candidates : Candidates (byTable n t) set (part w (3 * n) m)
+
+-- its answer, and what it leaves: every entry outside those of part 1 past the members is as it was
+pub record Tested (n : ℕ) (t before after : List ℕ) (s : Settings) (y : Tally) (m : ℕ) (r : Bool) : Type 0 where
+  pub answer : r ≡ beatenOf (byTable n t) s y (part before (3 * n) m)
+  pub kept : Kept (n + y .members) (2 * n) before after

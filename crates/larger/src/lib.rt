@@ -1,0 +1,99 @@
+// The search for a larger isolated clique.
+ghost use mathlib.Core.Path.{_≡_};
+ghost use Prim.Native.Nat.{_+_, _-_, _*_, _<_, _≤_, min, max};
+ghost use lib.ListN.{length};
+ghost use Rattle.model.specs.Graph.{byTable};
+ghost use Rattle.model.specs.Listing.{is};
+ghost use Rattle.theory.specs.Search.{joinedAll};
+ghost use Rattle.graph.specs.Table.{TableFits};
+ghost use Rattle.larger.specs.Parts.{part, HoldsVertices};
+ghost use Rattle.larger.specs.Search.{Lent, Room, Searched, Posed, Tested};
+use isolation::Settings;
+use isolation::Tally;
+use isolation::hopeless;
+use isolation::isolated_by;
+use isolation::with_member;
+
+// Whether v is joined to each vertex in entries from to to - 1 of work, in the graph on n vertices that the table holds. Reads v's row at these
+// vertices, up to the first that is not joined.
+pub fn joined_to_all(table: &[u8], n: usize, work: &[u16], v: usize, from: usize, to: usize) -> bool
+    requires { ⌜ TableFits n (now table) × (v < n) × (from ≤ to) × (to ≤ length (now work)) × HoldsVertices n (now work) from (to - from) ⌝ }
+    ensures { λ r. ⌜ r ≡ joinedAll (byTable n (now (table .entry))) v (part (now (work .entry)) from (to - from)) ⌝ }
+{
+    let mut i = from;
+    while i < to {
+        let u = work[i] as usize;
+        if !graph::joined(table, n, v, u) {
+            return false;
+        }
+        i += 1;
+    }
+    true
+}
+
+// Searches for a larger isolated clique. The members, with the numbers y, stand in part 1 of work; those from place base on were added by the
+// search, and candidates i to m - 1 of part 3 are left. A candidate that is joined to those added is added, and the candidates after it are
+// searched; else, and after that, it is passed over. Reads the table and the degrees in part 1 of ranks; writes part 1 of work past the members.
+fn search(
+    table: &[u8],
+    ranks: &[u16],
+    work: &mut [u16],
+    n: usize,
+    s: Settings,
+    y: Tally,
+    base: usize,
+    i: usize,
+    m: usize,
+) -> bool
+    requires { ⌜ Lent n (now table) (now ranks) (now work) × Room n (now work) s y base i m ⌝ }
+    ensures { λ r. ⌜ Searched n (now (table .entry)) (now (work .entry)) (now (work .exit)) s y base i m r ⌝ }
+{
+    let first = n + base;
+    let end = n + y.members;
+    let mut j = i;
+    while j < m {
+        if hopeless(s, y, m - j) {
+            return false;
+        }
+        let x = work[3 * n + j];
+        let v = x as usize;
+        j += 1;
+        if joined_to_all(table, n, work, v, first, end) {
+            let d = ranks[n + v] as usize;
+            let z = with_member(y, d);
+            if isolated_by(s, z) {
+                return true;
+            }
+            work[end] = x;
+            if search(table, ranks, work, n, s, z, base, j, m) {
+                return true;
+            }
+        }
+    }
+    false
+}
+
+// Whether a clique with the numbers y is not maximal of its kind, where the first m entries of part 3 of work are its common neighbours. Kind 0 with
+// avg or max is searched for; for kind 1, and for min, a common neighbour decides. Reads the table and the degrees in part 1 of ranks; writes part 1
+// of work past the members, whose entries it does not read.
+pub fn beaten(
+    table: &[u8],
+    ranks: &[u16],
+    work: &mut [u16],
+    n: usize,
+    s: Settings,
+    y: Tally,
+    m: usize,
+) -> bool
+    requires { ⌜ Lent n (now table) (now ranks) (now work) × Posed n (now table) (now work) s y m ⌝ }
+    ensures { λ r. ⌜ Tested n (now (table .entry)) (now (work .entry)) (now (work .exit)) s y m r ⌝ }
+{
+    if s.kind != 0 {
+        return 0 < m;
+    }
+    if s.notion == 0 {
+        return 0 < m;
+    }
+    search(table, ranks, work, n, s, y, y.members, 0, m)
+}
+

@@ -1,0 +1,86 @@
+-- `dimacs::line::read_line` meets its contract, by the first letter. Assumes nothing.
+use Prim.Native.Nat.{ℕ}
+use mathlib.Core.Path.{_≡_}
+use native.Mathlib.Omega.{arith}
+use lib.ListN.{getD}
+use borrow.Author.Needs.{needs}
+use Rattle.lines.specs.Line.{readingOf, Letter}
+use Rattle.lines.proofs.Lines.{line-empty, line-other, comment-passes, comment-31}
+use Rattle.lines.proofs.Steps.{faulty, unchanged}
+use Rattle.lines.proofs.read_line.Statement.{statement}
+use Rattle.lines.proofs.read_line.Tie as tie
+
+-- a line that is not empty has a first letter
+letter : (c : tie.After-shared-slice-known2) {b : ℕ} → getD (c .before .before .before .before .args .line .now) 0 0 ≡ b → Letter b (c .before .before .before .before .args .line .now)
+letter c e = record { some = omega arith; first = e }
+
+returns : tie.Need-returns
+returns c =
+    let g = c .before .before .before .args in
+    faulty (line-empty _ (readingOf (g .s) (g .table .now)) (g .line .now) (c .if1 .taken))
+
+shared-slice-read-first : tie.Need-shared-slice-read-first
+shared-slice-read-first c = search needs
+
+comment-requires : tie.Need-comment-requires
+comment-requires c κs = tt
+
+problem-line-requires : tie.Need-problem-line-requires
+problem-line-requires c κs =
+    let e = c .before in
+    (letter (e .before) (e .match .keys2), c .before .before .before .before .before .before .pre .0)
+
+edge-line-requires : tie.Need-edge-line-requires
+edge-line-requires c κs =
+    let e = c .before in
+    (letter (e .before) (e .match .keys3), c .before .before .before .before .before .before .pre)
+
+returns-2 : tie.Need-returns-2
+returns-2 c =
+    let e = c .before .before in
+    let b = e .before .before .before .before .before in
+    let g = b .args in
+    unchanged (b .pre .0)
+    (comment-passes _ (readingOf (g .s) (g .table .now)) (g .line .now) (letter (e .before) (e .match .keys1)) _ (c .before .comment .ensures) (c .if2 .taken))
+
+returns-3 : tie.Need-returns-3
+returns-3 c =
+    let e = c .before .before in
+    let b = e .before .before .before .before .before in
+    let g = b .args in
+    faulty (comment-31 _ (readingOf (g .s) (g .table .now)) (g .line .now) (letter (e .before) (e .match .keys1)) _ (c .before .comment .ensures) (c .if2 .left))
+
+same-length : tie.Need-same-length
+same-length c = search needs
+
+returns-4 : tie.Need-returns-4
+returns-4 c = search needs
+
+same-length-2 : tie.Need-same-length-2
+same-length-2 c = search needs
+
+returns-5 : tie.Need-returns-5
+returns-5 c = search needs
+
+returns-6 : tie.Need-returns-6
+returns-6 c =
+    let g = c .before .before .before .before .before .args in
+    let m = c .match .rest in
+    faulty (line-other _ (readingOf (g .s) (g .table .now)) (g .line .now) (m .0 .0 .1) (m .0 .1) (m .1))
+
+pub read-line-spec : {M : Type 1} → statement M
+read-line-spec =
+    tie.close
+    (tie.spec
+    returns
+    shared-slice-read-first
+    comment-requires
+    problem-line-requires
+    edge-line-requires
+    returns-2
+    returns-3
+    same-length
+    returns-4
+    same-length-2
+    returns-5
+    returns-6)

@@ -1,0 +1,58 @@
+-- What the readers of a line promise. Assumes nothing.
+use Prim.Native.Nat.{ℕ, _+_, _*_, _≤_, _<_}
+use mathlib.Core.Path.{_≡_}
+use mathlib.Core.Bool.{false}
+use mathlib.Core.List.{List}
+use lib.ListN.{length, getD, take, drop}
+use Rattle.model.specs.Text.{Reading, Step, bad, next}
+use Rattle.lines.specs.declared.State.{State}
+use Rattle.lines.specs.declared.Line.{Line}
+use Rattle.lines.specs.declared.Line.the-variants.{Bad, Next}
+
+-- a line's first byte
+pub record Letter (b : ℕ) (line : List ℕ) : Type 0 where
+  pub some : 0 < length line
+  pub first : getD line 0 0 ≡ b
+
+-- the state and the first N × N bytes of the table slice, as the definition's reading
+abbrev pub readingOf : State → List ℕ → Reading
+readingOf s t = record {
+  passed = s .passed;
+  vertices = s .vertices;
+  stated = s .stated;
+  edges = s .edges;
+  table = take (s .vertices * s .vertices) t;
+}
+
+-- document 01's number of a faulty line, or the reading that goes on
+abbrev pub stepOf : Line → List ℕ → Step
+stepOf (Bad k) t = bad k
+stepOf (Next s) t = next (readingOf s t)
+
+-- the state before the first line
+abbrev pub start : State
+start = record { passed = false; vertices = 0; stated = 0; edges = 0 }
+
+-- a state that a table slice of this length has room for
+pub record Fit (s : State) (room : ℕ) : Type 0 where
+  pub small : s .vertices ≤ 1024
+  pub area : s .vertices * s .vertices ≤ room
+  pub stated : s .stated < 1000000
+  pub fresh : s .passed ≡ false → s .vertices ≡ 0
+
+-- from one state to the next: nothing past the table is written
+pub record Went (s s' : State) (before after : List ℕ) : Type 0 where
+  pub fit : Fit s' (length before)
+  pub rest : drop (s' .vertices * s' .vertices) after ≡ drop (s' .vertices * s' .vertices) before
+  pub grows : s .vertices ≤ s' .vertices
+  pub counted : s' .edges ≤ s .edges + 1
+
+-- a faulty line writes nothing
+abbrev pub Kept : State → List ℕ → List ℕ → Line → Type 0
+Kept s before after (Bad k) = after ≡ before
+Kept s before after (Next s') = Went s s' before after
+
+-- a line, or a part of it, is read as the definition's step says
+pub record Stepped (wanted : Step) (s : State) (before after : List ℕ) (r : Line) : Type 0 where
+  pub step : stepOf r after ≡ wanted
+  pub kept : Kept s before after r

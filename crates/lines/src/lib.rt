@@ -1,0 +1,188 @@
+// One line of the text.
+pub mod table;
+
+ghost use mathlib.Core.Path.{_≡_};
+ghost use mathlib.Core.Bool.{true, not, _&&_};
+ghost use Prim.Native.Nat.{_+_, _<_, _^_};
+ghost use lib.ListN.{length, take, drop};
+ghost use lib.Dec.{eqb};
+ghost use Rattle.model.specs.Text.{pLine, eLine, lineStep, unspaced};
+ghost use Rattle.lines.specs.Line.{Letter, readingOf, start, Fit, Stepped};
+use number::Pair;
+
+// What the lines so far say: whether a p line passed, its N and M, and the count of e lines.
+pub struct State {
+    pub passed: bool,
+    pub vertices: usize,
+    pub stated: usize,
+    pub edges: usize,
+}
+
+// A line is at fault, with its number, or the reading goes on.
+pub enum Line {
+    Bad(u32),
+    Next(State),
+}
+
+// Whether a line starts with these bytes.
+fn starts(line: &[u8], head: &[u8]) -> bool
+    ensures { λ r. ⌜ (r ≡ true → take (length (now (head .entry))) (now (line .entry)) ≡ now (head .entry)) × (take (length (now (head .entry))) (now (line .entry)) ≡ now (head .entry) → r ≡ true) ⌝ }
+{
+    if line.len() < head.len() {
+        return false;
+    }
+    let k = head.len();
+    check::same(&line[..k], head)
+}
+
+// Whether a space stands after the first letter.
+fn spaced(line: &[u8]) -> bool
+    ensures { λ r. ⌜ r ≡ not (unspaced (drop 1 (now (line .entry)))) ⌝ }
+{
+    if line.len() < 2 {
+        return false;
+    }
+    line[1] == b' '
+}
+
+// Whether a line that starts with c is a comment: c alone, or c and a space.
+fn comment(line: &[u8]) -> bool
+    ensures { λ r. ⌜ r ≡ not (not (eqb (length (drop 1 (now (line .entry)))) 0) && unspaced (drop 1 (now (line .entry)))) ⌝ }
+{
+    if line.len() < 2 {
+        return true;
+    }
+    spaced(line)
+}
+
+// A p line's numbers: 35 N over 1,024; 40 table under N × N.
+fn problem(table: &mut [u8], n: usize, m: usize) -> Line
+    requires { ⌜ m < 1000000 ⌝ }
+    ensures { λ r. ⌜ Stepped (pLine (length (now (table .entry))) n m) start (now (table .entry)) (now (table .exit)) r ⌝ }
+{
+    if 1024 < n {
+        return Line::Bad(35);
+    }
+    let area = n * n;
+    if table.len() < area {
+        return Line::Bad(40);
+    }
+    crate::table::clear(table, area);
+    Line::Next(State {
+        passed: true,
+        vertices: n,
+        stated: m,
+        edges: 0,
+    })
+}
+
+// An e line's numbers: 36 U or V out of range; 37 U = V; 38 pair repeated.
+fn edge(table: &mut [u8], s: State, u: usize, v: usize) -> Line
+    requires { ⌜ Fit s (length (now table)) ⌝ }
+    requires { ⌜ s .edges + 1 < 2 ^ 64 ⌝ }
+    ensures { λ r. ⌜ Stepped (eLine (readingOf s (now (table .entry))) u v) s (now (table .entry)) (now (table .exit)) r ⌝ }
+{
+    let n = s.vertices;
+    if u == 0 {
+        return Line::Bad(36);
+    }
+    let a = u - 1;
+    if n <= a {
+        return Line::Bad(36);
+    }
+    if v == 0 {
+        return Line::Bad(36);
+    }
+    let b = v - 1;
+    if n <= b {
+        return Line::Bad(36);
+    }
+    if a == b {
+        return Line::Bad(37);
+    }
+    let there = a * n + b;
+    if table[there] == 1 {
+        return Line::Bad(38);
+    }
+    let back = b * n + a;
+    table[there] = 1;
+    table[back] = 1;
+    Line::Next(State {
+        passed: true,
+        vertices: n,
+        stated: s.stated,
+        edges: s.edges + 1,
+    })
+}
+
+// A line that starts with p: 31 no space after it; 34 a second p line; 32 another fault of form; then its numbers.
+fn problem_line(line: &[u8], table: &mut [u8], s: State) -> Line
+    requires { ⌜ Letter 112 (now line) ⌝ }
+    requires { ⌜ Fit s (length (now table)) ⌝ }
+    ensures { λ r. ⌜ Stepped (lineStep (length (now (table .entry))) (readingOf s (now (table .entry))) (now (line .entry))) s (now (table .entry)) (now (table .exit)) r ⌝ }
+{
+    if !spaced(line) {
+        return Line::Bad(31);
+    }
+    let second = s.passed;
+    let other = !starts(line, b"p edge");
+    if second {
+        return Line::Bad(34);
+    }
+    if other {
+        return Line::Bad(32); // not the six bytes
+    }
+    if line.len() < 7 {
+        return Line::Bad(32);
+    }
+    if line[6] != b' ' {
+        return Line::Bad(32);
+    }
+    match number::two_numbers(&line[7..]) {
+        Pair::Numbers(n, m) => problem(table, n, m),
+        Pair::NoPair => Line::Bad(32),
+    }
+}
+
+// A line that starts with e: 31 no space after it; 33 no p line before it; 32 another fault of form; then its numbers.
+fn edge_line(line: &[u8], table: &mut [u8], s: State) -> Line
+    requires { ⌜ Letter 101 (now line) ⌝ }
+    requires { ⌜ Fit s (length (now table)) ⌝ }
+    requires { ⌜ s .edges + 1 < 2 ^ 64 ⌝ }
+    ensures { λ r. ⌜ Stepped (lineStep (length (now (table .entry))) (readingOf s (now (table .entry))) (now (line .entry))) s (now (table .entry)) (now (table .exit)) r ⌝ }
+{
+    if !spaced(line) {
+        return Line::Bad(31);
+    }
+    if !s.passed {
+        return Line::Bad(33);
+    }
+    match number::two_numbers(&line[2..]) {
+        Pair::Numbers(u, v) => edge(table, s, u, v),
+        Pair::NoPair => Line::Bad(32),
+    }
+}
+
+// One line: 31 empty, or another first letter; then by its first letter.
+pub fn read_line(line: &[u8], table: &mut [u8], s: State) -> Line
+    requires { ⌜ Fit s (length (now table)) ⌝ }
+    requires { ⌜ s .edges + 1 < 2 ^ 64 ⌝ }
+    ensures { λ r. ⌜ Stepped (lineStep (length (now (table .entry))) (readingOf s (now (table .entry))) (now (line .entry))) s (now (table .entry)) (now (table .exit)) r ⌝ }
+{
+    if line.len() == 0 {
+        return Line::Bad(31);
+    }
+    let first = line[0];
+    match first {
+        b'c' => {
+            if comment(line) {
+                Line::Next(s)
+            } else {
+                Line::Bad(31)
+            }
+        }
+        b'p' => problem_line(line, table, s),
+        b'e' => edge_line(line, table, s),
+        _ => Line::Bad(31),
+    }
+}

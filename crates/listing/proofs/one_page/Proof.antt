@@ -1,0 +1,71 @@
+-- `cli::list::one_page` meets its contract. Assumes nothing.
+use Prim.Native.Nat.{ℕ}
+use mathlib.Core.Path.{sym, ap, ap₂}
+use mathlib.Core.List.{List}
+use native.Mathlib.Omega.{arith}
+use lib.ListN.{length, take, length-take}
+use lib.Seq.{length-take-le}
+use lib.Dec.{eqb}
+use Rattle.model.specs.Program.{printed}
+use Rattle.isolation.specs.Numbers.{settingsOf}
+use Rattle.print.proofs.Places.{puts-as}
+use Rattle.listing.proofs.Paging.{used-fits}
+use borrow.Author.Needs.{needs}
+use Rattle.listing.proofs.one_page.Statement.{statement}
+use Rattle.listing.proofs.one_page.Tie as tie
+
+page-requires : tie.Need-page-requires
+page-requires c κs = search needs
+
+slice-reshare-prefix-print-entries : tie.Need-slice-reshare-prefix-print-entries
+slice-reshare-prefix-print-entries c =
+    let a = c .before .before .before .before .before .before .before .before .before .before .before .before .before .before .before .args in
+    used-fits (a .n) (a .table .now) (settingsOf (a .s)) 4294967295 (a .position .now) (a .output .now) (length (a .work .now)) (c .before .before .before .before .before .before .page .ensures .replies)
+
+slice-aggregate-print-entries : tie.Need-slice-aggregate-print-entries
+slice-aggregate-print-entries c =
+    let a = c .before .before .before .before .before .before .before .before .before .before .before .before .before .before .before .before .args in
+    sym (length-take-le _ _ (used-fits (a .n) (a .table .now) (settingsOf (a .s)) 4294967295 (a .position .now) (a .output .now) (length (a .work .now)) (c .before .before .before .before .before .before .before .page .ensures .replies)))
+
+print-entries-requires : tie.Need-print-entries-requires
+print-entries-requires c κs =
+    omega (arith, length-take (c .before .before .before .before .before .before .before .before .page .result .used) (c .before .before .before .before .before .before .before .before .page .last .1 .1 .0), c .before .before .before .before .before .before .before .before .page .kept .1 .1 .0)
+
+same-length : tie.Need-same-length
+same-length c = search needs
+
+same-length-2 : tie.Need-same-length-2
+same-length-2 c = search needs
+
+same-length-3 : tie.Need-same-length-3
+same-length-3 c = search needs
+
+same-length-4 : tie.Need-same-length-4
+same-length-4 c = search needs
+
+returns : tie.Need-returns
+returns c =
+    let a = c .before .before .before .before .before .before .before .before .before .before .before .before .before .before .before .before .before .before .before .before .before .args in
+    let r = c .before .before .before .before .before .before .before .before .before .before .before .before .page in
+    let e = r .ensures .replies in
+    record {
+      position = e .position;
+      finished = ap (λ (k : ℕ). eqb k 1) (e .stop);
+      groups = e .groups;
+      steps = e .steps;
+      puts = puts-as (ap printed (ap₂ (λ (k : ℕ) (l : List ℕ). take k l) (e .used) (e .output))) (c .before .before .before .print-entries .ensures);
+    }
+
+pub one-page-spec : {M : Type 1} → statement M
+one-page-spec =
+    tie.close
+    (tie.spec
+    page-requires
+    slice-reshare-prefix-print-entries
+    slice-aggregate-print-entries
+    print-entries-requires
+    same-length
+    same-length-2
+    same-length-3
+    same-length-4
+    returns)

@@ -1,0 +1,66 @@
+-- What the listing of a graph promises: the totals of replies to page calls, from the fresh position on until one says Finished.
+-- Assumes nothing.
+use Prim.Native.Nat.{ℕ, _+_, _*_, _≤_}
+use mathlib.Core.Path.{_≡_}
+use mathlib.Core.Bool.{true}
+use mathlib.Core.List.{List}
+use lib.ListN.{length, take}
+use lib.Dec.{eqb}
+use Rattle.model.specs.Graph.{byTable}
+use Rattle.model.specs.Groups.{Settings}
+use Rattle.model.specs.Walk.{Position, fresh, lasts, fullSets, fullList}
+use Rattle.model.specs.Listing.{rules}
+use Rattle.model.specs.Calls.{refuseTable, refuseSettings, PageReply, pageCall}
+use Rattle.model.specs.Demand.{leftAt, allSteps, allGroups, SomeFinished}
+use Rattle.model.specs.Program.{printed, printedPages, held}
+use Rattle.theory.proofs.calls.Pages.{Chain}
+use Rattle.listing.specs.declared.Turn.{Turn}
+use Rattle.listing.specs.declared.totals.Totals.{Totals}
+use Rattle.print.specs.Put.{Puts}
+
+-- the reply to a page call with the largest budget
+abbrev pub turnReply : ℕ → List ℕ → Settings → Position → List ℕ → ℕ → PageReply
+turnReply n t s p out work = pageCall n t s 4294967295 p out work
+
+-- a page from p leaves its position, its numbers, and its used entries printed from the buffer's start on
+pub record Turned (n : ℕ) (t : List ℕ) (s : Settings) (p out : List ℕ) (work : ℕ) (bytes left printed' : List ℕ) (r : Turn) : Type 0 where
+  pub position : left ≡ turnReply n t s p out work .position
+  pub finished : r .finished ≡ eqb (turnReply n t s p out work .stop) 1
+  pub groups : r .groups ≡ turnReply n t s p out work .groups
+  pub steps : r .steps ≡ turnReply n t s p out work .steps
+  pub puts : Puts bytes 0 (printed (take (turnReply n t s p out work .used) (turnReply n t s p out work .output))) printed' (r .printed)
+
+-- a graph's table and settings without fault, its fresh position, and room for any record, for the work and for what is printed
+pub record Begins (n : ℕ) (t : List ℕ) (s : Settings) (p out work bytes : List ℕ) : Type 0 where
+  pub table : refuseTable n t 0 ≡ 0
+  pub settings : refuseSettings s 0 ≡ 0
+  pub start : p ≡ fresh n
+  pub output : n + 1 ≤ length out
+  pub room : 8 * n ≤ length work
+  pub buffer : 6 * length out ≤ length bytes
+
+-- a graph of at most 256 vertices whose table has no fault, with settings that have none
+pub record Listable (n : ℕ) (t : List ℕ) (s : Settings) : Type 0 where
+  pub few : n ≤ 256
+  pub table : refuseTable n t 0 ≡ 0
+  pub settings : refuseSettings s 0 ≡ 0
+
+-- replies to page calls, from fresh to the position p, with their totals held
+pub record Paged (n : ℕ) (t : List ℕ) (s : Settings) (p : Position) (groups steps : ℕ) : Type 0 where
+  pub replies : List PageReply
+  pub chain : Chain (rules (byTable n t) s) (fresh n) replies
+  pub left : leftAt replies (fresh n) ≡ p
+  pub all-groups : groups ≡ held (allGroups replies)
+  pub all-steps : steps ≡ held (allSteps replies)
+
+-- The replies to page calls, from fresh on, of which one has said Finished: what is printed of them is what is printed of the full list. The totals
+-- are theirs, and so the number of groups of the full list and the walk's length, both held.
+pub record Ran (n : ℕ) (t : List ℕ) (s : Settings) (r : Totals) : Type 0 where
+  pub replies : List PageReply
+  pub chain : Chain (rules (byTable n t) s) (fresh n) replies
+  pub ended : SomeFinished replies
+  pub all-groups : r .groups ≡ held (allGroups replies)
+  pub all-steps : r .steps ≡ held (allSteps replies)
+  pub pages : printedPages replies ≡ printed (fullList (rules (byTable n t) s) n)
+  pub full-groups : r .groups ≡ held (length (fullSets (rules (byTable n t) s) n))
+  pub full-steps : (k : ℕ) × (lasts (rules (byTable n t) s) k (fresh n) ≡ true) × (r .steps ≡ held k)

@@ -1,0 +1,82 @@
+// The listing of a graph: page after page until one says Finished, each printed and written at once.
+pub mod totals;
+
+ghost use Prim.Native.Nat.{_*_, _≤_};
+ghost use lib.ListN.{length};
+ghost use Rattle.isolation.specs.Numbers.{settingsOf};
+ghost use Rattle.listing.specs.List.{Turned, Begins, Ran};
+use print::print_entries;
+use crate::totals::Totals;
+use crate::totals::held_add;
+use libc::STDOUT_FILENO;
+use isolation::Settings;
+
+// What a page brought: whether it said Finished, its groups and steps, and how many bytes are printed of it.
+pub struct Turn {
+    pub finished: bool,
+    pub groups: u32,
+    pub steps: u32,
+    pub printed: usize,
+}
+
+// One page with the largest budget, printed into the buffer.
+fn one_page(
+    table: &[u8],
+    position: &mut [u8],
+    output: &mut [u16],
+    work: &mut [u16],
+    bytes: &mut [u8],
+    n: usize,
+    s: Settings,
+) -> Turn
+    requires { ⌜ 6 * length (now output) ≤ length (now bytes) ⌝ }
+    ensures { λ r. ⌜
+        Turned n (now (table .entry)) (settingsOf s) (now (position .entry)) (now (output .entry)) (length (now (work .entry)))
+        (now (bytes .entry)) (now (position .exit)) (now (bytes .exit)) r
+        ⌝ }
+{
+    let a = page::page(
+        table,
+        position,
+        output,
+        work,
+        n,
+        s.notion,
+        s.kind,
+        s.factor,
+        4294967295,
+    );
+    let printed = print_entries(&output[..a.used], bytes);
+    Turn {
+        finished: a.stop == 1,
+        groups: a.groups,
+        steps: a.steps,
+        printed,
+    }
+}
+
+// Lists all groups of a graph from the fresh position on, and answers the totals. Each page makes a step, so this ends.
+pub fn list_all(
+    table: &[u8],
+    position: &mut [u8],
+    output: &mut [u16],
+    work: &mut [u16],
+    bytes: &mut [u8],
+    n: usize,
+    s: Settings,
+) -> Totals
+    requires { ⌜ Begins n (now table) (settingsOf s) (now position) (now output) (now work) (now bytes) ⌝ }
+    ensures { λ r. ⌜ Ran n (now (table .entry)) (settingsOf s) r ⌝ }
+{
+    let mut groups: u32 = 0;
+    let mut steps: u32 = 0;
+    loop {
+        let t = one_page(table, position, output, work, bytes, n, s);
+        io::write_all(STDOUT_FILENO, &bytes[..t.printed]);
+        groups = held_add(groups, t.groups);
+        steps = held_add(steps, t.steps);
+        if t.finished {
+            return Totals { groups, steps };
+        }
+    }
+}

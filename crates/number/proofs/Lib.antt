@@ -1,0 +1,4 @@
+-- Laws.
+pub mod Numbers
+pub mod Fields
+pub mod Splits

@@ -1,0 +1,63 @@
+-- `dimacs::field::number` meets its contract, by the field's length and first byte.
+-- Assumes nothing.
+use mathlib.Core.Path.{_∙_}
+use native.Mathlib.Omega.{arith}
+use borrow.Author.Needs.{needs}
+use Rattle.number.proofs.Numbers.{number-empty, number-long, number-spoilt, number-leading, number-zero, number-digits, digit-below, digit-above}
+use Rattle.number.proofs.number.Statement.{statement}
+use Rattle.number.proofs.number.Tie as tie
+
+returns : tie.Need-returns
+returns c = record { value = number-empty (c .before .before .args .field .now) (c .if1 .taken); small = tt }
+
+returns-2 : tie.Need-returns-2
+returns-2 c = record { value = number-long (c .before .before .before .args .field .now) (c .if2 .taken); small = tt }
+
+shared-slice-read-first : tie.Need-shared-slice-read-first
+shared-slice-read-first c = search needs
+
+digits-requires : tie.Need-digits-requires
+digits-requires c κs = omega arith
+
+returns-3 : tie.Need-returns-3
+returns-3 c =
+    let f = c .before .before .before .before .before .before .args .field .now in
+    record { value = number-zero f (omega arith) (c .before .match .keys1); small = omega arith }
+
+returns-4 : tie.Need-returns-4
+returns-4 c =
+    let f = c .before .before .before .before .before .before .args .field .now in
+    record { value = number-leading f (c .if3 .left) (c .before .match .keys1); small = tt }
+
+returns-5 : tie.Need-returns-5
+returns-5 c =
+    let f = c .before .before .before .before .before .before .before .before .args .field .now in
+    let e = c .digits .ensures in
+    record {
+      value = e .value ∙ number-digits f (omega arith) (omega arith) (c .before .before .before .match .rest .1);
+      small = e .small;
+    }
+
+returns-6 : tie.Need-returns-6
+returns-6 c =
+    let f = c .before .before .before .before .before .before .args .field .now in
+    record { value = number-spoilt f (digit-below f 0 (omega arith) (omega (arith, c .before .match .rest .1))); small = tt }
+
+returns-7 : tie.Need-returns-7
+returns-7 c =
+    let f = c .before .before .before .before .before .before .before .args .field .now in
+    record { value = number-spoilt f (digit-above f 0 (omega arith) (c .if5 .left)); small = tt }
+
+pub number-spec : {M : Type 1} → statement M
+number-spec =
+    tie.close
+    (tie.spec
+    returns
+    returns-2
+    shared-slice-read-first
+    digits-requires
+    returns-3
+    returns-4
+    returns-5
+    returns-6
+    returns-7)

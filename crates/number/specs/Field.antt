@@ -1,0 +1,60 @@
+-- What the readers of fields and numbers promise. Assumes nothing.
+use Prim.Native.Nat.{ℕ, _≤_, _<_}
+use mathlib.Core.Path.{_≡_}
+use mathlib.Core.Bool.{cond}
+use mathlib.Core.List.{List, [], _∷_}
+use mathlib.Core.Option.{Option, none, some}
+use lib.ListN.{length, getD}
+use Rattle.model.specs.Text.{Step, bad, digits, decimal, numberOf, fieldsOf, two}
+use Rattle.number.specs.declared.Field.{Field}
+use Rattle.number.specs.declared.Field.the-variants.{Number, NoNumber}
+use Rattle.number.specs.declared.Pair.{Pair}
+use Rattle.number.specs.declared.Pair.the-variants.{Numbers, NoPair}
+
+-- r is the first place of byte b in s from a place on, or the end of s
+pub record Found (s : List ℕ) (from b r : ℕ) : Type 0 where
+  pub after : from ≤ r
+  pub within : r ≤ length s
+  pub passed : (k : ℕ) → k < r → from ≤ k → getD s k 0 ≡ b → ⊥
+  pub hit : r < length s → getD s r 0 ≡ b
+
+-- the number that a field was read as
+abbrev pub valueOf : Field → Option ℕ
+valueOf (Number m) = some m
+valueOf NoNumber = none
+
+-- six digits at most
+abbrev pub SixDigits : Field → Type 0
+SixDigits (Number m) = m < 1000000
+SixDigits NoNumber = Unit {0}
+
+-- a field is read as the definition says
+pub record NumberRead (wanted : Option ℕ) (r : Field) : Type 0 where
+  pub value : valueOf r ≡ wanted
+  pub small : SixDigits r
+
+-- the number of a field that has 1 to 6 bytes and no leading zero: they are to be digits
+abbrev pub digitsOf : List ℕ → Option ℕ
+digitsOf f = cond (digits f) (some (decimal 0 f)) none
+
+-- exactly two fields, each a number, or 32
+unfoldable pub twoOf : List (List ℕ) → (ℕ → ℕ → Step) → Step
+twoOf [] k = bad 32
+twoOf (a ∷ []) k = bad 32
+twoOf (a ∷ b ∷ []) k = two (numberOf a) (numberOf b) k
+twoOf (a ∷ b ∷ f ∷ fs) k = bad 32
+
+-- what follows from two fields as they were read: 32 where they are no two numbers
+abbrev pub given : Pair → (ℕ → ℕ → Step) → Step
+given (Numbers a b) k = k a b
+given NoPair k = bad 32
+
+-- six digits at most in each
+abbrev pub SixDigitsEach : Pair → Type 0
+SixDigitsEach (Numbers a b) = (a < 1000000) × (b < 1000000)
+SixDigitsEach NoPair = Unit {0}
+
+-- a part of a line is read as two numbers, as the definition says
+pub record PairRead (part : List ℕ) (r : Pair) : Type 0 where
+  pub goes : (k : ℕ → ℕ → Step) → given r k ≡ twoOf (fieldsOf part) k
+  pub small : SixDigitsEach r

@@ -1,0 +1,61 @@
+-- `page::position::lowest` meets its contract: no rank that was passed is x.
+-- Assumes nothing.
+use Prim.Native.Nat.{ℕ, _-_, _≤_, _<_}
+use mathlib.Core.Path.{_≡_, sym}
+use mathlib.Core.Bool.{false}
+use native.Mathlib.Omega.{arith}
+use lib.ListN.{length}
+use borrow.Author.Tests.{eq-eqb, ne-eqb}
+use borrow.Author.Count.{below-more}
+use Rattle.model.specs.Listing.{is}
+use Rattle.theory.proofs.walk.Scans.{least-at}
+use borrow.Author.Needs.{needs}
+use Rattle.position.proofs.lowest.Statement.{statement}
+use Rattle.position.proofs.lowest.Tie as tie
+
+abbrev Inv-loop : tie.InvT-loop
+Inv-loop x position i₀ i = (i ≤ length position) × ((k : ℕ) → k < i → is x position k ≡ false)
+
+abbrev μ-loop : tie.MeasureT-loop
+μ-loop x position i₀ i = length position - i
+
+loop-holds : tie.Need-loop-holds Inv-loop μ-loop
+loop-holds c = (omega arith, λ k h. absurd (omega arith))
+
+shared-slice-read-if1 : tie.Need-shared-slice-read-if1 Inv-loop μ-loop
+shared-slice-read-if1 c = search needs
+
+returns : tie.Need-returns Inv-loop μ-loop
+returns c =
+    let b = c .before .before .before .before in
+    let l = c .before .before .before .loop in
+    sym (least-at (length (b .args .position .now)) (is (b .args .x) (b .args .position .now)) (l .i) (omega arith) (l .inv .1) (λ _. eq-eqb _ _ (c .if1 .taken)))
+
+add-i : tie.Need-add-i Inv-loop μ-loop
+add-i c = search needs
+
+loop-less : tie.Need-loop-less Inv-loop μ-loop
+loop-less c = search needs
+
+loop-again : tie.Need-loop-again Inv-loop μ-loop
+loop-again c = (omega arith, below-more _ _ (c .before .before .before .loop .inv .1) (ne-eqb _ _ (c .if1 .left)))
+
+returns-2 : tie.Need-returns-2 Inv-loop μ-loop
+returns-2 c =
+    let b = c .before .before in
+    let l = c .before .loop in
+    sym (least-at (length (b .args .position .now)) (is (b .args .x) (b .args .position .now)) (l .i) (l .inv .0) (l .inv .1) (λ h. absurd (omega arith)))
+
+pub lowest-spec : {M : Type 1} → statement M
+lowest-spec =
+    tie.close
+    (tie.spec
+    Inv-loop
+    μ-loop
+    loop-holds
+    shared-slice-read-if1
+    returns
+    add-i
+    loop-less
+    loop-again
+    returns-2)

@@ -1,0 +1,181 @@
+// The refusals of a position, 21 to 23. They read the table, the rank order and the position, and write nothing.
+ghost use mathlib.Core.Path.{_≡_};
+ghost use Prim.Native.Nat.{_≤_, _<_};
+ghost use lib.ListN.{length};
+ghost use Rattle.model.specs.Below.{least};
+ghost use Rattle.model.specs.Graph.{byTable};
+ghost use Rattle.model.specs.Groups.{Settings};
+ghost use Rattle.model.specs.Listing.{is, adjacent, apart, dead, rules};
+ghost use Rattle.model.specs.Calls.{gap, refusePosition};
+ghost use Rattle.position.specs.Position.{Ranked, stranger, apartAt, leftNeighbour, leftOf};
+
+// The lowest rank whose byte is x, and the position's length where there is none. Reads the position up to it.
+fn lowest(x: u8, position: &[u8]) -> usize
+    ensures { λ r. ⌜ r ≡ least (length (now (position .entry))) (is x (now (position .entry))) ⌝ }
+{
+    let mut i = 0;
+    while i < position.len() {
+        if position[i] == x {
+            return i;
+        }
+        i += 1;
+    }
+    i
+}
+
+// The lowest open rank, and the position's length where all are decided. Reads the position up to it.
+pub fn decided_count(position: &[u8]) -> usize
+    ensures { λ r. ⌜ r ≡ least (length (now (position .entry))) (is 0 (now (position .entry))) ⌝ }
+{
+    lowest(0, position)
+}
+
+// Whether a decided rank comes after an open one. Reads the position.
+fn has_gap(position: &[u8]) -> bool
+    ensures { λ r. ⌜ r ≡ gap (now (position .entry)) ⌝ }
+{
+    let mut i = decided_count(position);
+    while i < position.len() {
+        if position[i] != 0 {
+            return true;
+        }
+        i += 1;
+    }
+    false
+}
+
+// An entry as an index.
+fn wide(x: u16) -> usize
+    ensures { λ r. ⌜ r ≡ x ⌝ }
+{
+    x as usize
+}
+
+// Whether the vertices at ranks a and b are joined, of the graph on n vertices that the table holds and whose rank order `ranks` holds.
+fn adjacent_at(table: &[u8], ranks: &[u16], n: usize, a: usize, b: usize) -> bool
+    requires { ⌜ Ranked n (now table) (now ranks) × (a < n) × (b < n) ⌝ }
+    ensures { λ r. ⌜ r ≡ adjacent (byTable n (now (table .entry))) a b ⌝ }
+{
+    let u = wide(ranks[a]);
+    let v = wide(ranks[b]);
+    graph::joined(table, n, u, v)
+}
+
+// Whether rank i of a position is taken and not adjacent to rank s.
+fn is_stranger(table: &[u8], ranks: &[u16], n: usize, position: &[u8], s: usize, i: usize) -> bool
+    requires { ⌜ Ranked n (now table) (now ranks) × (length (now position) ≤ n) × (s < n) × (i < length (now position)) ⌝ }
+    ensures { λ r. ⌜ r ≡ stranger (byTable n (now (table .entry))) (now (position .entry)) s i ⌝ }
+{
+    if position[i] != 1 {
+        return false;
+    }
+    !adjacent_at(table, ranks, n, i, s)
+}
+
+// Whether rank s of a position is taken and some taken rank below it is not adjacent to it. Reads the position up to s.
+fn is_apart_at(table: &[u8], ranks: &[u16], n: usize, position: &[u8], s: usize) -> bool
+    requires { ⌜ Ranked n (now table) (now ranks) × (length (now position) ≤ n) × (s < length (now position)) ⌝ }
+    ensures { λ r. ⌜ r ≡ apartAt (byTable n (now (table .entry))) (now (position .entry)) s ⌝ }
+{
+    if position[s] != 1 {
+        return false;
+    }
+    let mut i = 0;
+    while i < s {
+        if is_stranger(table, ranks, n, position, s, i) {
+            return true;
+        }
+        i += 1;
+    }
+    false
+}
+
+// Whether two taken ranks of a position are not adjacent; ranks past its end are open. Reads the position.
+fn is_apart(table: &[u8], ranks: &[u16], n: usize, position: &[u8]) -> bool
+    requires { ⌜ Ranked n (now table) (now ranks) × (length (now position) ≤ n) ⌝ }
+    ensures { λ r. ⌜ r ≡ apart (byTable n (now (table .entry))) (now (position .entry)) ⌝ }
+{
+    let mut s = 0;
+    while s < position.len() {
+        if is_apart_at(table, ranks, n, position, s) {
+            return true;
+        }
+        s += 1;
+    }
+    false
+}
+
+// Whether rank i of a position is left and adjacent to the rank `pivot`.
+fn is_left_neighbour(
+    table: &[u8],
+    ranks: &[u16],
+    n: usize,
+    position: &[u8],
+    pivot: usize,
+    i: usize,
+) -> bool
+    requires { ⌜ Ranked n (now table) (now ranks) × (length (now position) ≤ n) × (pivot < n) × (i < length (now position)) ⌝ }
+    ensures { λ r. ⌜ r ≡ leftNeighbour (byTable n (now (table .entry))) (now (position .entry)) pivot i ⌝ }
+{
+    if position[i] != 2 {
+        return false;
+    }
+    adjacent_at(table, ranks, n, pivot, i)
+}
+
+// How many left ranks of a position are adjacent to the rank `pivot`. Reads the position.
+fn left_of_pivot(table: &[u8], ranks: &[u16], n: usize, position: &[u8], pivot: usize) -> usize
+    requires { ⌜ Ranked n (now table) (now ranks) × (length (now position) ≤ n) × (pivot < n) ⌝ }
+    ensures { λ r. ⌜ r ≡ leftOf (byTable n (now (table .entry))) (now (position .entry)) pivot ⌝ }
+{
+    let mut sum: usize = 0;
+    let mut i = 0;
+    while i < position.len() {
+        if is_left_neighbour(table, ranks, n, position, pivot, i) {
+            sum += 1;
+        }
+        i += 1;
+    }
+    sum
+}
+
+// Whether a position is dead; ranks past its end are open. Reads the position.
+fn is_dead(table: &[u8], ranks: &[u16], n: usize, c: u32, position: &[u8]) -> bool
+    requires { ⌜ Ranked n (now table) (now ranks) × (length (now position) ≤ n) ⌝ }
+    ensures { λ r. ⌜ r ≡ dead (byTable n (now (table .entry))) c (now (position .entry)) ⌝ }
+{
+    if is_apart(table, ranks, n, position) {
+        return true;
+    }
+    let pivot = lowest(1, position);
+    if pivot == position.len() {
+        return false;
+    }
+    c as usize <= left_of_pivot(table, ranks, n, position, pivot)
+}
+
+// The refusal number of a position of n ranks, whatever its bytes: 21, 22 or 23, and 0 where all three tests pass. The number of decided ranks is
+// read off the position; what is tested for 23 is the part before the last of them. Reads the position.
+pub fn position_refusal(table: &[u8], ranks: &[u16], n: usize, c: u32, position: &[u8]) -> u32
+    requires { ⌜ Ranked n (now table) (now ranks) × (length (now position) ≡ n) ⌝ }
+    ensures { λ r. ⌜
+        ((s : Settings) → s .factor ≡ c
+        → r ≡ refusePosition (rules (byTable n (now (table .entry))) s) (now (position .entry)))
+        ⌝ }
+{
+    if graph::any_over(2, position) {
+        return 21;
+    }
+    if has_gap(position) {
+        return 22;
+    }
+    let d = decided_count(position);
+    if d == 0 {
+        return 0;
+    }
+    let e = d - 1;
+    if is_dead(table, ranks, n, c, &position[..e]) {
+        return 23;
+    }
+    0
+}

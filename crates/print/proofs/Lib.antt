@@ -1,0 +1,4 @@
+-- Laws.
+pub mod Places
+pub mod Numeral
+pub mod Printed

@@ -1,0 +1,69 @@
+-- `cli::print::print_entries` meets its contract. Assumes nothing.
+use Prim.Native.Nat.{_-_}
+use native.Mathlib.Omega.{arith}
+use lib.ListN.{length}
+use Rattle.print.proofs.Places.{puts-length}
+use Rattle.print.proofs.Printed.{SoFar, so-none, so-more, so-all}
+use borrow.Author.Needs.{needs}
+use Rattle.print.proofs.print_entries.Statement.{statement}
+use Rattle.print.proofs.print_entries.Tie as tie
+
+abbrev Inv-loop : tie.InvT-loop
+Inv-loop entries bytes₀ s₀ i₀ bytes s i = SoFar entries bytes₀ bytes s i
+
+abbrev μ-loop : tie.MeasureT-loop
+μ-loop entries bytes₀ s₀ i₀ bytes s i = length entries - i
+
+loop-holds : tie.Need-loop-holds Inv-loop μ-loop
+loop-holds c = so-none (c .before .before .args .entries .now) (c .before .before .args .bytes .now)
+
+mul-put-entry : tie.Need-mul-put-entry Inv-loop μ-loop
+mul-put-entry c = search needs
+
+shared-slice-read-put-entry : tie.Need-shared-slice-read-put-entry Inv-loop μ-loop
+shared-slice-read-put-entry c = search needs
+
+put-entry-requires : tie.Need-put-entry-requires Inv-loop μ-loop
+put-entry-requires c κs =
+    let l = c .before .before .before .loop .inv in
+    let h = l .short in
+    omega (arith, puts-length (l .puts))
+
+add-i : tie.Need-add-i Inv-loop μ-loop
+add-i c = search needs
+
+loop-less : tie.Need-loop-less Inv-loop μ-loop
+loop-less c = search needs
+
+loop-again : tie.Need-loop-again Inv-loop μ-loop
+loop-again c =
+    let l = c .before .before .before .before .before .before in
+    let a = l .before .before .before .args in
+    so-more (a .entries .now) (a .bytes .now) (l .loop .bytes) (l .loop .s) (l .loop .i) (l .loop .inv) (omega arith)
+    (c .before .before .put-entry .last .0) (c .before .before .put-entry .result) (c .before .before .put-entry .ensures)
+
+same-length : tie.Need-same-length Inv-loop μ-loop
+same-length c = puts-length (c .before .loop .inv .puts)
+
+returns : tie.Need-returns Inv-loop μ-loop
+returns c =
+    let a = c .before .before .before .before .args in
+    let l = c .before .loop in
+    let h = l .inv .passed in
+    so-all (a .entries .now) (a .bytes .now) (l .bytes) (l .s) (l .i) (l .inv) (omega arith)
+
+pub print-entries-spec : {M : Type 1} → statement M
+print-entries-spec =
+    tie.close
+    (tie.spec
+    Inv-loop
+    μ-loop
+    loop-holds
+    mul-put-entry
+    shared-slice-read-put-entry
+    put-entry-requires
+    add-i
+    loop-less
+    loop-again
+    same-length
+    returns)

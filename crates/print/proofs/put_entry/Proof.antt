@@ -1,0 +1,80 @@
+-- `cli::print::put_entry` meets its contract. Assumes nothing.
+use Prim.Native.Nat.{_+_}
+use native.Mathlib.Omega.{arith}
+use Rattle.print.proofs.Numeral.{five-digits}
+use Rattle.print.proofs.Places.{puts-length}
+use Rattle.print.proofs.Printed.{put-empty, put-size, put-vertex}
+use borrow.Author.Needs.{needs}
+use Rattle.print.proofs.put_entry.Statement.{statement}
+use Rattle.print.proofs.put_entry.Tie as tie
+
+slice-write-bytes : tie.Need-slice-write-bytes
+slice-write-bytes c = search needs
+
+add-t10 : tie.Need-add-t10
+add-t10 c = search needs
+
+same-length : tie.Need-same-length
+same-length c = search needs
+
+returns : tie.Need-returns
+returns c =
+    let a = c .before .before .before .args in
+    put-empty (a .bytes .now) (a .at) (a .left) (a .entry) (c .before .if1 .taken) (c .if2 .taken) (omega arith)
+
+returns-2 : tie.Need-returns-2
+returns-2 c =
+    let a = c .before .before .before .args in
+    put-size (a .bytes .now) (a .at) (a .left) (a .entry) (c .before .if1 .taken) (c .if2 .left) (omega arith)
+
+add-put-number : tie.Need-add-put-number
+add-put-number c = search needs
+
+put-number-requires : tie.Need-put-number-requires
+put-number-requires c κs = omega (arith, five-digits (c .before .before .before .args .entry + 1) (omega arith))
+
+parting-requires : tie.Need-parting-requires
+parting-requires c κs = search needs
+
+slice-write-bytes-2 : tie.Need-slice-write-bytes-2
+slice-write-bytes-2 c =
+    let a = c .before .before .before .before .before .before .before .args in
+    let p = c .before .before .before .put-number .ensures in
+    let h = p .place in
+    omega (arith, puts-length p, five-digits (a .entry + 1) (omega arith))
+
+add-t13 : tie.Need-add-t13
+add-t13 c = search needs
+
+sub-t16 : tie.Need-sub-t16
+sub-t16 c = search needs
+
+same-length-2 : tie.Need-same-length-2
+same-length-2 c = search needs
+
+returns-3 : tie.Need-returns-3
+returns-3 c =
+    let a = c .before .before .before .before .before .before .before .args in
+    let p = c .before .before .before .put-number .ensures in
+    let h = p .place in
+    put-vertex (a .bytes .now) (a .at) (a .left) (a .entry) (c .before .before .before .before .before .if1 .left) (omega arith)
+    (c .before .before .before .put-number .last .0) (c .before .before .before .put-number .result) p
+    (omega (arith, puts-length p, five-digits (a .entry + 1) (omega arith))) (c .parting .result) (c .parting .ensures)
+
+pub put-entry-spec : {M : Type 1} → statement M
+put-entry-spec =
+    tie.close
+    (tie.spec
+    slice-write-bytes
+    add-t10
+    same-length
+    returns
+    returns-2
+    add-put-number
+    put-number-requires
+    parting-requires
+    slice-write-bytes-2
+    add-t13
+    sub-t16
+    same-length-2
+    returns-3)

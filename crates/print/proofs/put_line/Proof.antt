@@ -1,0 +1,76 @@
+-- `cli::print::put_line` meets its contract. Assumes nothing.
+use mathlib.Core.Path.{_≡_, _∙_}
+use native.Mathlib.Omega.{arith}
+use lib.ListN.{length, length-set}
+use Rattle.print.proofs.Places.{puts-length}
+use Rattle.print.proofs.Printed.{puts-line}
+use borrow.Author.Needs.{needs}
+use Rattle.print.proofs.put_line.Statement.{statement}
+use Rattle.print.proofs.put_line.Tie as tie
+
+put-requires : tie.Need-put-requires
+put-requires c κs = search needs
+
+put-number-requires : tie.Need-put-number-requires
+put-number-requires c κs = search needs
+
+slice-write-bytes : tie.Need-slice-write-bytes
+slice-write-bytes c = search needs
+
+add-put-number : tie.Need-add-put-number
+add-put-number c = search needs
+
+put-number-requires-2 : tie.Need-put-number-requires-2
+put-number-requires-2 c κs =
+    let q = c .before .before .before .put-number .ensures in
+    let p = c .before .before .before .before .before .before .before .put .ensures in
+    let h = p .place in
+    let g = q .place in
+    simp length-set (omega (arith, puts-length p, puts-length q))
+
+slice-write-bytes-2 : tie.Need-slice-write-bytes-2
+slice-write-bytes-2 c =
+    let r = c .before .before .put-number2 .ensures in
+    let q = c .before .before .before .before .before .before .put-number .ensures in
+    let p = c .before .before .before .before .before .before .before .before .before .before .put .ensures in
+    let h = p .place in
+    let g = q .place in
+    let f = r .place in
+    let l : length (c .before .before .put-number2 .last .0) ≡ length (c .before .before .before .before .before .before .put-number .last .0) = puts-length r ∙ simp length-set in
+    omega (arith, puts-length p, puts-length q)
+
+add-result : tie.Need-add-result
+add-result c = search needs
+
+same-length : tie.Need-same-length
+same-length c =
+    let r = c .before .before .put-number2 .ensures in
+    let q = c .before .before .before .before .before .before .put-number .ensures in
+    let p = c .before .before .before .before .before .before .before .before .before .before .put .ensures in
+    simp length-set (puts-length r ∙ simp length-set (puts-length q ∙ puts-length p))
+
+returns : tie.Need-returns
+returns c =
+    let r = c .before .before .put-number2 .ensures in
+    let q = c .before .before .before .before .before .before .put-number .ensures in
+    let p = c .before .before .before .before .before .before .before .before .before .before .put .ensures in
+    let h = p .place in
+    let g = q .place in
+    let f = r .place in
+    let l : length (c .before .before .put-number2 .last .0) ≡ length (c .before .before .before .before .before .before .put-number .last .0) = puts-length r ∙ simp length-set in
+    let a = c .before .before .before .before .before .before .before .before .before .before .before .before .before .before .args in
+    puts-line (a .word .now) (a .a) (a .b) p q (omega (arith, puts-length p, puts-length q)) r (omega (arith, puts-length p, puts-length q))
+
+pub put-line-spec : {M : Type 1} → statement M
+put-line-spec =
+    tie.close
+    (tie.spec
+    put-requires
+    put-number-requires
+    slice-write-bytes
+    add-put-number
+    put-number-requires-2
+    slice-write-bytes-2
+    add-result
+    same-length
+    returns)

@@ -1,0 +1,56 @@
+-- `page::walk::open_ranks` meets its contract: the ranks that were passed are open, and the others are as they were.
+-- Assumes nothing.
+use Prim.Native.Nat.{ℕ, _-_, _≤_}
+use mathlib.Core.Path.{_≡_, subst}
+use native.Mathlib.Omega.{arith}
+use Rattle.walk.specs.Walk.{Cleared}
+use Rattle.walk.proofs.Opened.{cleared-none, cleared-more}
+use borrow.Author.Needs.{needs}
+use Rattle.walk.proofs.open_ranks.Statement.{statement}
+use Rattle.walk.proofs.open_ranks.Tie as tie
+
+abbrev Inv-loop : tie.InvT-loop
+Inv-loop position₀ a e i₀ position i = (a ≤ i) × (i ≤ e) × Cleared a i position₀ position
+
+abbrev μ-loop : tie.MeasureT-loop
+μ-loop position₀ a e i₀ position i = e - i
+
+loop-holds : tie.Need-loop-holds Inv-loop μ-loop
+loop-holds c = (omega arith, omega arith, cleared-none _ _)
+
+slice-write-position : tie.Need-slice-write-position Inv-loop μ-loop
+slice-write-position c = omega (arith, c .before .loop .inv .2 .same-length)
+
+add-i : tie.Need-add-i Inv-loop μ-loop
+add-i c = search needs
+
+loop-less : tie.Need-loop-less Inv-loop μ-loop
+loop-less c = search needs
+
+loop-again : tie.Need-loop-again Inv-loop μ-loop
+loop-again c =
+    let l = c .before .loop in
+    (omega arith, omega arith, cleared-more _ _ _ _ (l .inv .2) (l .inv .0) (omega (arith, l .inv .2 .same-length)))
+
+same-length : tie.Need-same-length Inv-loop μ-loop
+same-length c = c .before .loop .inv .2 .same-length
+
+returns : tie.Need-returns Inv-loop μ-loop
+returns c =
+    let l = c .before .loop in
+    let e : l .i ≡ c .before .before .args .e = omega arith in
+    subst (λ (k : ℕ). Cleared (c .before .before .args .a) k (c .before .before .args .position .now) (l .position)) e (l .inv .2)
+
+pub open-ranks-spec : {M : Type 1} → statement M
+open-ranks-spec =
+    tie.close
+    (tie.spec
+    Inv-loop
+    μ-loop
+    loop-holds
+    slice-write-position
+    add-i
+    loop-less
+    loop-again
+    same-length
+    returns)

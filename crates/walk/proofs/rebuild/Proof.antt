@@ -1,0 +1,101 @@
+-- `page::walk::rebuild` meets its contract: the state stands for the position with the ranks from `decided` on opened.
+-- Assumes nothing.
+use Prim.Native.Nat.{ℕ, _+_, _-_, _<_}
+use mathlib.Core.Path.{_≡_, refl, _∙_, subst, subst⁻¹}
+use mathlib.Core.Logic.{_≢_}
+use native.Mathlib.Omega.{arith}
+use lib.ListN.{length, getD, List·getD-eq-default}
+use Rattle.model.specs.Graph.{byTable}
+use Rattle.model.specs.Walk.{Position}
+use Rattle.graph.proofs.Work.{table-size}
+use Rattle.walk.specs.State.{Stands}
+use Rattle.walk.proofs.Opened.{opened, fresh-stands, opened-decides, opened-same, gapless, bytes-most}
+use borrow.Author.Needs.{needs}
+use Rattle.walk.proofs.rebuild.Statement.{statement}
+use Rattle.walk.proofs.rebuild.Tie as tie
+
+abbrev Inv-loop : tie.InvT-loop
+Inv-loop table ranks n position work₀ s₀ work s = Stands (byTable n table) (opened (s .decided) position) work s × (length work ≡ length work₀)
+
+abbrev μ-loop : tie.MeasureT-loop
+μ-loop table ranks n position work₀ s₀ work s = n - s .decided
+
+loop-holds : tie.Need-loop-holds Inv-loop μ-loop
+loop-holds c =
+    let b = c .before .before .before .before in
+    let size = table-size (b .args .n) (b .args .table .now) in
+    (fresh-stands (byTable (b .args .n) (b .args .table .now)) (b .args .position .now) (b .args .work .now) (omega (arith, b .pre .1)) (omega (arith, b .pre .2)), refl)
+
+shared-slice-read-mark : tie.Need-shared-slice-read-mark Inv-loop μ-loop
+shared-slice-read-mark c = search needs
+
+same-length : tie.Need-same-length Inv-loop μ-loop
+same-length c = c .before .before .before .before .loop .inv .1
+
+returns : tie.Need-returns Inv-loop μ-loop
+returns c =
+    let b = c .before .before .before .before .before .before .before .before .before in
+    let l = c .before .before .before .before .loop in
+    let p = b .args .position .now in
+    let z : getD p (l .s .decided) 0 ≡ 0 = c .if2 .taken in
+    subst (λ (q : Position). Stands (byTable (b .args .n) (b .args .table .now)) q (l .work) (l .s))
+    (opened-same p (l .s .decided) (omega (arith, b .pre .1)) (gapless p (b .pre .4) (l .s .decided) z)) (l .inv .0)
+
+push-requires : tie.Need-push-requires Inv-loop μ-loop
+push-requires c κs =
+    let b = c .before .before .before .before .before .before .before .before .before .before in
+    let l = c .before .before .before .before .before .loop in
+    let p = b .args .position .now in
+    let d = l .s .decided in
+    let o : getD p d 0 ≢ 0 = c .before .if2 .left in
+    let h : d < b .args .n = omega arith in
+    let m = bytes-most 2 p (b .pre .3) d (omega (arith, b .pre .1)) in
+    (b .pre .0, (opened d p, l .inv .0), h, omega arith, m)
+
+loop-less : tie.Need-loop-less Inv-loop μ-loop
+loop-less c =
+    let l = c .before .before .before .before .before .before .before .before .loop in
+    omega (arith, c .before .before .push .ensures .next)
+
+loop-again : tie.Need-loop-again Inv-loop μ-loop
+loop-again c =
+    let b = c .before .before .before .before .before .before .before .before .before .before .before .before .before in
+    let l = c .before .before .before .before .before .before .before .before .loop in
+    let p = b .args .position .now in
+    let d = l .s .decided in
+    let h : d < length p = omega (arith, b .pre .1) in
+    let u = c .before .before .push in (
+      subst⁻¹ (λ (k : ℕ). Stands (byTable (b .args .n) (b .args .table .now)) (opened k p) (u .last .1 .1 .1 .1 .1 .0) (u .result)) (u .ensures .next)
+          (u .ensures .stands (opened d p) (opened (d + 1) p) (l .inv .0) (opened-decides p d h)),
+      u .kept .1 .1 .1 .1 .1 .0 ∙ l .inv .1,
+    )
+
+same-length-2 : tie.Need-same-length-2 Inv-loop μ-loop
+same-length-2 c = c .before .before .loop .inv .1
+
+returns-2 : tie.Need-returns-2 Inv-loop μ-loop
+returns-2 c =
+    let b = c .before .before .before .before .before .before .before in
+    let l = c .before .before .loop in
+    let p = b .args .position .now in
+    let St = l .inv .0 in
+    let size = table-size (b .args .n) (b .args .table .now) in
+    let e : l .s .decided ≡ length p = omega (arith, St .bound, b .pre .1) in
+    subst (λ (q : Position). Stands (byTable (b .args .n) (b .args .table .now)) q (l .work) (l .s))
+    (opened-same p (l .s .decided) (omega arith) (λ r k. List·getD-eq-default p 0 (omega arith))) St
+
+pub rebuild-spec : {M : Type 1} → statement M
+rebuild-spec =
+    tie.close
+    (tie.spec
+    Inv-loop
+    μ-loop
+    loop-holds
+    shared-slice-read-mark
+    same-length
+    returns
+    push-requires
+    loop-less
+    loop-again
+    same-length-2
+    returns-2)

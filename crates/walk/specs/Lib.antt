@@ -1,0 +1,3 @@
+-- Specs.
+pub mod State
+pub mod Walk

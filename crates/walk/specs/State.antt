@@ -1,0 +1,60 @@
+-- How the state of a page stands for a position: the one invariant of its functions.
+-- Assumes nothing.
+use Prim.Native.Nat.{ℕ, _+_, _*_, _≤_, _<_}
+use mathlib.Core.Path.{_≡_}
+use mathlib.Core.Bool.{_&&_}
+use mathlib.Core.Logic.{_≢_}
+use mathlib.Core.List.{List, [], _∷_}
+use lib.ListN.{length, getD, take, drop}
+use Rattle.model.specs.Below.{passing}
+use Rattle.model.specs.Graph.{Graph, byTable, degree}
+use Rattle.model.specs.Walk.{Position, has}
+use Rattle.model.specs.Listing.{is, adjacent, pivot, apart, takenList}
+use Rattle.graph.specs.Table.{TableFits}
+use Rattle.graph.specs.Work.{HoldsDegrees, HoldsOrder}
+use Rattle.walk.specs.declared.State.{State}
+
+-- k entries of the work slice from entry a on
+abbrev pub part : List ℕ → ℕ → ℕ → List ℕ
+part w a k = take k (drop a w)
+
+-- the taken ranks, lowest first
+unfoldable pub takenRanks : Graph → Position → List ℕ
+takenRanks G p = passing (G .size) (is 1 p)
+
+-- the left ranks that are adjacent to the pivot, lowest first; none where nothing is taken
+unfoldable pub leftRanks : Graph → Position → List ℕ
+leftRanks G p = passing (G .size) (λ r. has 1 p && is 2 p r && adjacent G (pivot G p) r)
+
+-- the degrees of the vertices, summed
+unfoldable pub degreesOf : Graph → List ℕ → ℕ
+degreesOf G [] = 0
+degreesOf G (v ∷ vs) = degree G v + degreesOf G vs
+
+-- The state s and the work slice w stand for the position p of the graph G. The work slice has three parts of n entries in use: part 0 for the
+-- taken ranks, part 1 for their vertices and part 2 for the left neighbours of the pivot, each from its start. All other entries are free.
+pub record Stands (G : Graph) (p : Position) (w : List ℕ) (s : State) : Type 0 where
+  pub long : length p ≡ G .size
+  pub room : 8 * G .size ≤ length w
+  pub bound : s .decided ≤ G .size
+  pub taken-bound : s .taken ≤ s .decided
+  pub left-bound : s .left ≤ s .decided
+  pub bytes : (r : ℕ) → getD p r 0 ≤ 2
+  pub decided : (r : ℕ) → r < s .decided → getD p r 0 ≢ 0
+  pub still-open : (r : ℕ) → s .decided ≤ r → getD p r 0 ≡ 0
+  pub ranks : part w 0 (s .taken) ≡ takenRanks G p
+  pub vertices : part w (G .size) (s .taken) ≡ takenList G p
+  pub left : part w (2 * G .size) (s .left) ≡ leftRanks G p
+  pub sum : s .sum ≡ degreesOf G (takenList G p)
+  pub apart : s .apart ≡ apart G p
+
+-- the state and the work slice stand for some position
+abbrev pub StandsForOne : Graph → List ℕ → State → Type 0
+StandsForOne G w s = (p : Position) × Stands G p w s
+
+-- the table fits, and the other slice holds its rank order and its degrees
+pub record Ranked (n : ℕ) (t ranks : List ℕ) : Type 0 where
+  pub fits : TableFits n t
+  pub room : 2 * n ≤ length ranks
+  pub order : HoldsOrder n (byTable n t) ranks
+  pub degrees : HoldsDegrees n (byTable n t) ranks
