@@ -16,7 +16,7 @@ use Rattle.model.specs.Calls.{refuseTable}
 use Rattle.theory.proofs.text.EdgeTextGraph.{read-table-accepted}
 use Rattle.graph.proofs.Refusals.{table-accepted}
 use Rattle.dimacs.specs.declared.TextAnswer.{TextAnswer}
-use Rattle.dimacs.specs.Reply.{Replies}
+use Rattle.dimacs.specs.Reply.{TextReplies}
 use Rattle.cli.specs.declared.verdict.Verdict.{Verdict}
 use Rattle.cli.specs.declared.verdict.Verdict.the-variants.{Refused, Listing}
 use Rattle.cli.specs.Verdict.{Fine, Judged}
@@ -49,7 +49,7 @@ below-257 n h = go (ltb n 257) refl
 
 module _ (text before table : List ℕ) (zeros : before ≡ replicate 65536 0) (long : length table ≡ 65536)
     (short : ltb 65536 (length text) ≡ false) (a : TextAnswer)
-    (replies : Replies (readText text before) table a) where
+    (replies : TextReplies (readText text before) table a) where
   same : readText text before ≡ reading text
   unfolding reading
   same = ap (readText text) zeros

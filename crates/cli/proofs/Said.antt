@@ -9,7 +9,7 @@ use lib.ListN.{length}
 use Rattle.model.specs.Groups as groups
 use Rattle.model.specs.Calls.{refuseSettings}
 use Rattle.model.specs.Text.{numberOf}
-use Rattle.model.specs.Program.{wrong, chosen, bounded, three, settingsOf}
+use Rattle.model.specs.Program.{wrong, chosen, bounded, three, settingsOfWords}
 use Rattle.number.specs.declared.Field.{Field}
 use Rattle.number.specs.declared.Field.the-variants.{Number, NoNumber}
 use Rattle.number.specs.Field.{NumberRead, valueOf, SixDigits}
@@ -32,8 +32,8 @@ small-read e r = subst SixDigits e (r .small)
 
 -- ---- all words
 
-not-three : (words : List (List ℕ)) → length words ≢ 3 → settingsOf words ≡ wrong 32
-unfolding settingsOf
+not-three : (words : List (List ℕ)) → length words ≢ 3 → settingsOfWords words ≡ wrong 32
+unfolding settingsOfWords
 not-three [] d = refl
 not-three (a ∷ []) d = refl
 not-three (a ∷ b ∷ []) d = refl
@@ -51,8 +51,8 @@ bounded-chosen zero s e = refl
 bounded-chosen (suc k) s e = absurd (omega arith)
 
 -- three words, by their numbers
-of-three : (a b c : List ℕ) → settingsOf (a ∷ b ∷ c ∷ []) ≡ three (numberOf a) (numberOf b) (numberOf c)
-unfolding settingsOf
+of-three : (a b c : List ℕ) → settingsOfWords (a ∷ b ∷ c ∷ []) ≡ three (numberOf a) (numberOf b) (numberOf c)
+unfolding settingsOfWords
 of-three a b c = refl
 
 no-first : (y z : Option ℕ) → three none y z ≡ wrong 32
@@ -78,8 +78,8 @@ module _ (count : ℕ) (a b c : List ℕ) where
 
   module _ (h : count ≡ 3) where
     said : (x y z : Option ℕ) → numberOf a ≡ x → numberOf b ≡ y → numberOf c ≡ z → (words : List (List ℕ)) → (count ≡ 3 → words ≡ a ∷ b ∷ c ∷ [])
-        → settingsOf words ≡ three x y z
-    said x y z p q r words w = ap settingsOf (w h) ∙ of-three a b c ∙ rw (p, q, r)
+        → settingsOfWords words ≡ three x y z
+    said x y z p q r words w = ap settingsOfWords (w h) ∙ of-three a b c ∙ rw (p, q, r)
 
     -- the form of one is wrong
     pub read-first : numberOf a ≡ none → WordsRead count a b c (Wrong 32)
@@ -94,7 +94,7 @@ module _ (count : ℕ) (a b c : List ℕ) where
     -- three numbers
     module _ (s : Settings) (p : numberOf a ≡ some (s .notion)) (q : numberOf b ≡ some (s .kind)) (r : numberOf c ≡ some (s .factor))
         (k : ℕ) (e : k ≡ refuseSettings (numbers.settingsOf s) 0) where
-      by-bounds : (words : List (List ℕ)) → (count ≡ 3 → words ≡ a ∷ b ∷ c ∷ []) → settingsOf words ≡ bounded k (numbers.settingsOf s)
+      by-bounds : (words : List (List ℕ)) → (count ≡ 3 → words ≡ a ∷ b ∷ c ∷ []) → settingsOfWords words ≡ bounded k (numbers.settingsOf s)
       by-bounds words w = said _ _ _ p q r words w ∙ all-three (numbers.settingsOf s) ∙ ap (λ (m : ℕ). bounded m (numbers.settingsOf s)) (sym e)
 
       pub read-bounds : k ≢ 0 → WordsRead count a b c (Wrong k)

@@ -13,7 +13,7 @@ use lib.Seq.{take-all}
 use borrow.Author.Tests.{ltb-true, ltb-false, lt-ltb}
 use Rattle.model.specs.Groups as groups
 use Rattle.model.specs.Text.{numberOf}
-use Rattle.model.specs.Program.{Words, chosen, Verdict, refusal, three, settingsOf, byWords, programVerdict, PrintsAt, Prints, refusedLine, endLine, printedPages}
+use Rattle.model.specs.Program.{Words, chosen, Verdict, refusal, three, settingsOfWords, byWords, programVerdict, PrintsAt, Prints, refusedLine, endLine, printedPages}
 use Rattle.theory.proofs.program.Program.{words-refused}
 use Rattle.number.proofs.Numbers.{number-empty, number-long}
 use Rattle.isolation.specs.Numbers as numbers
@@ -46,12 +46,12 @@ held-number (inl e) = ap numberOf e
 held-number {word} {a} (inr h) = sym (number-empty a (ap length (h .1))) ∙ number-long word (omega arith)
 
 same-numbers : (a b c x y z : List ℕ) → numberOf a ≡ numberOf x → numberOf b ≡ numberOf y → numberOf c ≡ numberOf z
-    → settingsOf (a ∷ b ∷ c ∷ []) ≡ settingsOf (x ∷ y ∷ z ∷ [])
-unfolding settingsOf
+    → settingsOfWords (a ∷ b ∷ c ∷ []) ≡ settingsOfWords (x ∷ y ∷ z ∷ [])
+unfolding settingsOfWords
 same-numbers a b c x y z p q r = λ i. three (p i) (q i) (r i)
 
 -- the words are read as the definition says
-words-said : (words : List (List ℕ)) (count : ℕ) (a b c : List ℕ) (r : said.Words) → Handed words count a b c → WordsRead count a b c r → wordsOf r ≡ settingsOf words
+words-said : (words : List (List ℕ)) (count : ℕ) (a b c : List ℕ) (r : said.Words) → Handed words count a b c → WordsRead count a b c r → wordsOf r ≡ settingsOfWords words
 words-said [] count a b c r h w = w .says [] (h .counted) (λ e. absurd (omega (arith, h .counted)))
 words-said (x ∷ []) count a b c r h w = w .says (x ∷ []) (h .counted) (λ e. absurd (omega (arith, h .counted)))
 words-said (x ∷ y ∷ []) count a b c r h w = w .says (x ∷ y ∷ []) (h .counted) (λ e. absurd (omega (arith, h .counted)))

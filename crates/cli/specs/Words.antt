@@ -21,5 +21,5 @@ Proper (Chosen s) = refuseSettings (settingsOf s) 0 ≡ 0
 
 -- any words of this count, which are a, b and c where they are three, say what the definition says
 pub record WordsRead (count : ℕ) (a b c : List ℕ) (r : Words) : Type 0 where
-  pub says : (words : List (List ℕ)) → length words ≡ count → (count ≡ 3 → words ≡ a ∷ b ∷ c ∷ []) → wordsOf r ≡ program.settingsOf words
+  pub says : (words : List (List ℕ)) → length words ≡ count → (count ≡ 3 → words ≡ a ∷ b ∷ c ∷ []) → wordsOf r ≡ program.settingsOfWords words
   pub proper : Proper r

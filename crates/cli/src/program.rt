@@ -5,16 +5,16 @@ ghost use lib.ListN.{length};
 ghost use Rattle.model.specs.Calls.{refuseSettings};
 ghost use Rattle.isolation.specs.Numbers.{settingsOf};
 ghost use Rattle.listing.specs.List.{Listable};
-use listing::list_all;
-use print::end_line;
-use print::refused_line;
 use crate::verdict::Verdict;
 use crate::verdict::judge;
 use crate::words::Words;
 use crate::words::settings_of;
+use isolation::Settings;
 use libc::STDIN_FILENO;
 use libc::STDOUT_FILENO;
-use isolation::Settings;
+use listing::list_all;
+use print::end_line;
+use print::refused_line;
 
 // Room for the output of a page, for the work slice of 256 vertices, and for what is printed of a page.
 fn output_room() -> [u16; 8192]

@@ -1,8 +1,8 @@
 // The program's words: notion, kind and factor.
 ghost use Rattle.cli.specs.Words.{WordsRead};
+use isolation::Settings;
 use number::Field;
 use number::number;
-use isolation::Settings;
 
 // What the words say: a refusal, by its number, or the settings.
 pub enum Words {

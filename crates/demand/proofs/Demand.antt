@@ -10,7 +10,7 @@ use contract.Lifetimes.{Lfts}
 use borrow.Fn.Kinds.{Dens, resT, endedOf}
 use denote.Triple.Clauses.{AtExit}
 use Rattle.model.specs.Graph.{byTable}
-use Rattle.model.specs.Groups.{Settings, VertexSet}
+use Rattle.model.specs.Groups.{Settings, settings, VertexSet}
 use Rattle.model.specs.Meaning.{Qualifies}
 use Rattle.model.specs.Walk.{Position, Page, fresh}
 use Rattle.model.specs.Listing.{rules}
@@ -19,28 +19,27 @@ use Rattle.model.specs.Demand as model
 use Rattle.model.specs.Demand.{joinedOutput, SomeFinished, Demand3}
 use Rattle.theory.proofs.calls.Bounds.{page-bounds}
 use Rattle.theory.proofs.calls.Pages.{call-progress, demand3}
-use Rattle.page.specs.Answer.{Replies}
-use Rattle.page.specs.Call.{given}
+use Rattle.page.specs.Answer.{PageReplies}
 use Rattle.page.proofs.page.Reads as page
 use Rattle.page.proofs.page.Kinds as page-kinds
-use Rattle.demand.specs.Demand.{Call, Promised, reported, Calls, EachCall, Every, PageDemand, Demanded}
+use Rattle.demand.specs.Demand.{MadeCall, Promised, reported, Calls, EachCall, Every, PageDemand, PageDemanded}
 
 -- ---- a call of `page::page` and its reply in document 01
 
 -- what the call brought beside the position
-abbrev brought : Call → model.Call
+abbrev brought : MadeCall → model.Call
 brought c =
     record {
       size = c .size;
       table = c .table;
-      settings = given (c .notion) (c .kind) (c .factor);
+      settings = settings (c .notion) (c .kind) (c .factor);
       budget = c .budget;
       output = c .output;
       work = length (c .work);
     }
 
 -- a call that keeps its promise reports the reply
-reported-is : (c : Call) → Promised c → reported c ≡ model.replyTo (brought c) (c .position)
+reported-is : (c : MadeCall) → Promised c → reported c ≡ model.replyTo (brought c) (c .position)
 reported-is c r i =
     record {
       refused = r .replies .refusal i;
@@ -55,7 +54,7 @@ reported-is c r i =
 
 module _ (t : List ℕ) (s : Settings) where
   -- what the calls of a list reported are the replies of document 01's page calls, one after the other
-  replies-are : (p : Position) (cs : List Call) → Calls t s p cs → map reported cs ≡ model.replies (map brought cs) p
+  replies-are : (p : Position) (cs : List MadeCall) → Calls t s p cs → map reported cs ≡ model.replies (map brought cs) p
   unfolding model.replies
   replies-are p [] h = refl
   replies-are p (c ∷ cs) h =
@@ -63,7 +62,7 @@ module _ (t : List ℕ) (s : Settings) where
       let f : c .position-left ≡ model.replyTo (brought c) p .position = ap (λ (r : PageReply). r .position) e in
       λ i. e i ∷ (replies-are (c .position-left) cs (h .1) ∙ ap (model.replies (map brought cs)) f) i
 
-  agree-are : (p : Position) (cs : List Call) → Calls t s p cs → model.Agree t s (map brought cs) p
+  agree-are : (p : Position) (cs : List MadeCall) → Calls t s p cs → model.Agree t s (map brought cs) p
   agree-are p [] h = tt
   agree-are p (c ∷ cs) h =
       let e : reported c ≡ model.replyTo (brought c) p = reported-is c (h .0 .promised) ∙ ap (model.replyTo (brought c)) (h .0 .handed) in
@@ -82,7 +81,7 @@ refused-still zero r p out d = absurd (d refl)
 refused-still (suc k) r p out d = (refl, refl, refl, refl, refl)
 
 -- whatever a call brings that keeps its promise
-pub each-call : (c : Call) → Promised c → EachCall c
+pub each-call : (c : MadeCall) → Promised c → EachCall c
 unfolding pageCall
 each-call c h =
     record {
@@ -97,19 +96,19 @@ each-call c h =
     }
   where
     s : Settings
-    s = given (c .notion) (c .kind) (c .factor)
+    s = settings (c .notion) (c .kind) (c .factor)
 
-    r : Replies (c .answer) (c .position-left) (c .output-left) (pageCall (c .size) (c .table) s (c .budget) (c .position) (c .output) (length (c .work)))
+    r : PageReplies (c .answer) (c .position-left) (c .output-left) (pageCall (c .size) (c .table) s (c .budget) (c .position) (c .output) (length (c .work)))
     r = h .replies
 
-every-call : (t : List ℕ) (s : Settings) (p : Position) (cs : List Call) → Calls t s p cs → Every cs
+every-call : (t : List ℕ) (s : Settings) (p : Position) (cs : List MadeCall) → Calls t s p cs → Every cs
 every-call t s p [] h = tt
 every-call t s p (c ∷ cs) h = (each-call c (h .0 .promised), every-call t s (c .position-left) cs (h .1))
 
 -- ---- the whole list
 
 -- Demand 3, of any list of calls that keep the promise of `page::page`.
-pub demand : Demanded
+pub demand : PageDemanded
 demand n t s valid cs h =
     let d = demand3 n t s valid (map brought cs) (agree-are t s (fresh n) cs h) in
     let e = sym (replies-are t s (fresh n) cs h) in
@@ -123,7 +122,7 @@ demand n t s valid cs h =
 -- ---- the compiled function
 
 -- A call of the compiled function, in the words of the contract that the checker itself reads from the source of `page::page` and proves: any arguments,
--- answer and memory at exit that this contract allows. The function asks for nothing, so any arguments may be given.
+-- answer and memory at exit that this contract allows. The function asks for nothing, so any arguments may be settings.
 pub record Compiled : Type 0 where
   pub lifetimes : Lfts 4
   pub arguments : Dens lifetimes page-kinds.ps
@@ -132,7 +131,7 @@ pub record Compiled : Type 0 where
   pub promised : page.Post lifetimes arguments answer at-exit
 
 -- its values: table, position, output, work, n, notion, kind, c, budget
-abbrev pub callOf : Compiled → Call
+abbrev pub callOf : Compiled → MadeCall
 callOf k =
     let a = k .arguments in
     record {
@@ -160,7 +159,7 @@ abbrev pub Chained : List ℕ → Settings → Position → List Compiled → Ty
 Chained t s p [] = Unit {0}
 Chained t s p (k ∷ ks) =
     (callOf k .position ≡ p)
-    × (callOf k .answer .refusal ≡ 0 → (callOf k .table ≡ t) × (given (callOf k .notion) (callOf k .kind) (callOf k .factor) ≡ s))
+    × (callOf k .answer .refusal ≡ 0 → (callOf k .table ≡ t) × (settings (callOf k .notion) (callOf k .kind) (callOf k .factor) ≡ s))
     × Chained t s (callOf k .position-left) ks
 
 chained-calls : (t : List ℕ) (s : Settings) (p : Position) (ks : List Compiled) → Chained t s p ks → Calls t s p (map callOf ks)

@@ -11,13 +11,12 @@ use Rattle.model.specs.Graph.{onVertices, byTable}
 use Rattle.model.specs.Walk.{fullSets, fullList}
 use Rattle.model.specs.Listing.{rules}
 use Rattle.model.specs.Calls.{byBytes, refuseQuery, queryReply, query}
-use Rattle.model.specs.Groups.{qualifies}
+use Rattle.model.specs.Groups.{settings, qualifies}
 use Rattle.model.specs.Text.{TextReply}
 use Rattle.theory.proofs.calls.Faults.{query-accepted-iff, query-yes-iff}
 use Rattle.theory.proofs.walk.Listing.{lists}
 use Rattle.theory.proofs.text.EdgeText.{accepted-iff, accepted-reply}
 use Rattle.theory.proofs.text.EdgeTextGraph.{read-graph-accepted}
-use Rattle.page.specs.Call.{given}
 use Rattle.demand.specs.Membership.{QueryDemand, ListDemand, ReaderDemand}
 use Rattle.demand.proofs.Demand.{demand}
 
@@ -35,7 +34,7 @@ bit-true false e = absurd (omega arith)
 pub query-demand : QueryDemand
 unfolding query
 query-demand n t set work left notion kind c a h e =
-    let s = given notion kind c in
+    let s = settings notion kind c in
     let accepted = sym (refused-is (refuseQuery n t s set (length work)) (qualifies (byTable n t) s (byBytes set))) ∙ sym (h .refused) ∙ e in
     let says = query-yes-iff n t s set (length work) (query-accepted-iff n t s set (length work) .0 accepted) in
     (λ y. says .0 (bit-true _ (sym (h .yes) ∙ y)), λ q. h .yes ∙ ap bit (says .1 q))

@@ -7,17 +7,17 @@ use mathlib.Core.Logic.{_≢_}
 use mathlib.Core.List.{List, [], _∷_, map}
 use lib.ListN.{length}
 use Rattle.model.specs.Graph.{byTable}
-use Rattle.model.specs.Groups.{Settings, VertexSet}
+use Rattle.model.specs.Groups.{Settings, settings, VertexSet}
 use Rattle.model.specs.Meaning.{Qualifies}
 use Rattle.model.specs.Walk.{Position, fresh, finished}
 use Rattle.model.specs.Listing.{rules}
 use Rattle.model.specs.Calls.{PageReply, refuseTable}
 use Rattle.model.specs.Demand.{joinedOutput, SomeFinished, Demand3}
 use Rattle.page.specs.declared.PageAnswer.{PageAnswer}
-use Rattle.page.specs.Call.{given, PageCalled}
+use Rattle.page.specs.Call.{PageCalled}
 
 -- One call of `page::page`: the values of its arguments, the slices as it was handed them, its answer, and the slices as it left them.
-pub record Call : Type 0 where
+pub record MadeCall : Type 0 where
   pub table : List ℕ
   pub position : Position
   pub output : List ℕ
@@ -33,13 +33,13 @@ pub record Call : Type 0 where
   pub work-left : List ℕ
 
 -- the call keeps the promise of `page::page`: these are the words of its `ensures`
-abbrev pub Promised : Call → Type 0
+abbrev pub Promised : MadeCall → Type 0
 Promised c =
-    PageCalled (c .size) (c .table) (given (c .notion) (c .kind) (c .factor)) (c .budget) (c .position) (c .output) (c .work)
+    PageCalled (c .size) (c .table) (settings (c .notion) (c .kind) (c .factor)) (c .budget) (c .position) (c .output) (c .work)
     (c .answer) (c .position-left) (c .output-left) (c .work-left)
 
 -- what a call reported, with the position and the output as it left them
-abbrev pub reported : Call → PageReply
+abbrev pub reported : MadeCall → PageReply
 reported c =
     record {
       refused = c .answer .refusal;
@@ -53,21 +53,21 @@ reported c =
     }
 
 -- a call of a list on the graph of the table t with the settings s, where the position is p
-pub record OneOf (t : List ℕ) (s : Settings) (p : Position) (c : Call) : Type 0 where
+pub record OneOf (t : List ℕ) (s : Settings) (p : Position) (c : MadeCall) : Type 0 where
   -- it keeps the promise of `page::page`
   pub promised : Promised c
   -- it is handed the position as the call before it left it, and nobody else writes it meanwhile
   pub handed : c .position ≡ p
   -- "Every accepted call brings this graph's table and this notion, kind and factor. A refused call may bring anything else beside the position."
-  pub agrees : c .answer .refusal ≡ 0 → (c .table ≡ t) × (given (c .notion) (c .kind) (c .factor) ≡ s)
+  pub agrees : c .answer .refusal ≡ 0 → (c .table ≡ t) × (settings (c .notion) (c .kind) (c .factor) ≡ s)
 
 -- a list of calls of which the first is handed p, and each later one the position as the call before it left it
-abbrev pub Calls : List ℕ → Settings → Position → List Call → Type 0
+abbrev pub Calls : List ℕ → Settings → Position → List MadeCall → Type 0
 Calls t s p [] = Unit {0}
 Calls t s p (c ∷ cs) = OneOf t s p c × Calls t s (c .position-left) cs
 
 -- what demand 3 says of each call by itself
-pub record EachCall (c : Call) : Type 0 where
+pub record EachCall (c : MadeCall) : Type 0 where
   -- "steps made equal the budget: stop Spent": never more steps than the budget
   pub within-budget : c .answer .steps ≤ c .budget
   -- "With budget 1 or more and output of n + 1 entries or more, a call on an unfinished walk makes at least one step."
@@ -77,12 +77,12 @@ pub record EachCall (c : Call) : Type 0 where
       → (c .answer .used ≡ 0) × (c .answer .groups ≡ 0) × (c .answer .steps ≡ 0) × (c .position-left ≡ c .position) × (c .output-left ≡ c .output) × (c .work-left ≡ c .work)
 
 -- that of every call of the list
-abbrev pub Every : List Call → Type 0
+abbrev pub Every : List MadeCall → Type 0
 Every [] = Unit {0}
 Every (c ∷ cs) = EachCall c × Every cs
 
 -- "After the list:"
-pub record PageDemand (n : ℕ) (t : List ℕ) (s : Settings) (cs : List Call) : Type 0 where
+pub record PageDemand (n : ℕ) (t : List ℕ) (s : Settings) (cs : List MadeCall) : Type 0 where
   -- the four points of demand 3, of what the calls reported
   pub done : Demand3 (rules (byTable n t) s) n (map reported cs)
   -- "A page that says Finished with an empty list: demand 3 shuts it out, no output meaning no qualifying set."
@@ -90,5 +90,5 @@ pub record PageDemand (n : ℕ) (t : List ℕ) (s : Settings) (cs : List Call) :
   pub each : Every cs
 
 -- Demand 3: of every graph's table, one that is not refused, all settings, and any list of calls of `page::page` that begins at fresh, the empty one too
-abbrev pub Demanded : Type 0
-Demanded = (n : ℕ) (t : List ℕ) (s : Settings) → refuseTable n t 0 ≡ 0 → (cs : List Call) → Calls t s (fresh n) cs → PageDemand n t s cs
+abbrev pub PageDemanded : Type 0
+PageDemanded = (n : ℕ) (t : List ℕ) (s : Settings) → refuseTable n t 0 ≡ 0 → (cs : List MadeCall) → Calls t s (fresh n) cs → PageDemand n t s cs

@@ -7,7 +7,7 @@ use mathlib.Core.Logic.{_↔_}
 use mathlib.Core.List.{List, _++_, map}
 use lib.ListN.{length, drop}
 use Rattle.model.specs.Graph.{byTable}
-use Rattle.model.specs.Groups.{Settings}
+use Rattle.model.specs.Groups.{Settings, settings}
 use Rattle.model.specs.Meaning.{Qualifies, Lists}
 use Rattle.model.specs.Walk.{Position, fresh, records}
 use Rattle.model.specs.Listing.{rules}
@@ -18,19 +18,18 @@ use Rattle.query.specs.declared.SetAnswer.{SetAnswer}
 use Rattle.query.specs.Query.{Answers}
 use Rattle.dimacs.specs.declared.TextAnswer.{TextAnswer}
 use Rattle.dimacs.specs.Reply.{ReadsAs}
-use Rattle.page.specs.Call.{given}
-use Rattle.demand.specs.Demand.{Call, reported, Calls}
+use Rattle.demand.specs.Demand.{MadeCall, reported, Calls}
 
 -- an accepted call of `query::set_query` says yes exactly where the set qualifies
 abbrev pub QueryDemand : Type 0
 QueryDemand =
     (n : ℕ) (t set work work-left : List ℕ) (notion kind c : ℕ) (a : SetAnswer) → Answers n t set work work-left notion kind c a → a .refusal ≡ 0
-    → (a .yes ≡ 1) ↔ Qualifies (byTable n t) (given notion kind c) (byBytes set)
+    → (a .yes ≡ 1) ↔ Qualifies (byTable n t) (settings notion kind c) (byBytes set)
 
 -- once a call of `page::page` has said Finished, the joined output is the records of positions that list the sets that qualify: sound, complete, in order
 abbrev pub ListDemand : Type 0
 ListDemand =
-    (n : ℕ) (t : List ℕ) (s : Settings) → refuseTable n t 0 ≡ 0 → (cs : List Call) → Calls t s (fresh n) cs → SomeFinished (map reported cs)
+    (n : ℕ) (t : List ℕ) (s : Settings) → refuseTable n t 0 ≡ 0 → (cs : List MadeCall) → Calls t s (fresh n) cs → SomeFinished (map reported cs)
     → (ps : List Position) × (joinedOutput (map reported cs) ≡ records (rules (byTable n t) s) ps) × Lists (byTable n t) s ps
 
 -- a call of `dimacs::read_text` that left a text read: N, M, line 0, the table, and the rest of the slice untouched

@@ -11,8 +11,8 @@ use lib.Seq.{drop-drop}
 use borrow.Author.Tests.{eq-eqb, ne-eqb}
 use Rattle.model.specs.Text.{Step, bad, next, lineStep, linesOf, TextReply, refusedAt, readFrom, readText}
 use Rattle.number.specs.Field.{Found}
-use Rattle.lines.specs.Line.{readingOf, start, Fit, Stepped}
-use Rattle.dimacs.specs.Reply.{Replies}
+use Rattle.lines.specs.Line.{readingOf, start, Fit, LineRead}
+use Rattle.dimacs.specs.Reply.{TextReplies}
 use Rattle.lines.specs.declared.State.{State}
 use Rattle.lines.specs.declared.Line.the-variants.{Bad, Next}
 use Rattle.dimacs.specs.declared.TextAnswer.{TextAnswer}
@@ -20,12 +20,12 @@ use Rattle.number.proofs.Splits.{lines-at}
 
 -- ---- the replies
 
-pub replies-as : {x y : TextReply} {t : List ℕ} {a : TextAnswer} → Replies x t a → x ≡ y → Replies y t a
-replies-as {t = t} {a = a} p e = subst (λ (z : TextReply). Replies z t a) e p
+pub replies-as : {x y : TextReply} {t : List ℕ} {a : TextAnswer} → TextReplies x t a → x ≡ y → TextReplies y t a
+replies-as {t = t} {a = a} p e = subst (λ (z : TextReply). TextReplies z t a) e p
 
 -- a refusal whose claimed bytes were cleared
 pub refusal-replies : (k line : ℕ) (s : State) (t t' : List ℕ) → t' ≡ replicate (s .vertices * s .vertices) 0 ++ drop (s .vertices * s .vertices) t →
-    Replies (refusedAt k line (readingOf s t) t) t' (record { refusal = k; vertices = 0; edges = 0; line = line })
+    TextReplies (refusedAt k line (readingOf s t) t) t' (record { refusal = k; vertices = 0; edges = 0; line = line })
 unfolding refusedAt
 refusal-replies k line s t t' e = record { refusal = refl; vertices = refl; edges = refl; line = refl; table = e }
 
@@ -42,7 +42,7 @@ module _ (line : ℕ) (s : State) (t : List ℕ) where
 
   -- accepted: the slice is the table and the rest
   pub end-accepted : s .passed ≡ true → s .edges ≡ s .stated →
-      Replies (readFrom line (readingOf s t) [] t) t (record { refusal = 0; vertices = s .vertices; edges = s .stated; line = 0 })
+      TextReplies (readFrom line (readingOf s t) [] t) t (record { refusal = 0; vertices = s .vertices; edges = s .stated; line = 0 })
   unfolding readFrom
   end-accepted e f = replies-as {x = accepted} whole (rw (e, eq-eqb (s .edges) (s .stated) f))
     where
@@ -55,7 +55,7 @@ module _ (line : ℕ) (s : State) (t : List ℕ) where
         slice = take (s .vertices * s .vertices) t ++ drop (s .vertices * s .vertices) t;
       }
 
-      whole : Replies accepted t (record { refusal = 0; vertices = s .vertices; edges = s .stated; line = 0 })
+      whole : TextReplies accepted t (record { refusal = 0; vertices = s .vertices; edges = s .stated; line = 0 })
       whole = record { refusal = refl; vertices = refl; edges = refl; line = refl; table = sym (take-append-drop (s .vertices * s .vertices) t) }
 
 -- ---- from line to line
@@ -102,7 +102,7 @@ refused-same k line s t t' x y e =
 
 module _ {text t₀ t : List ℕ} {s : State} {at line : ℕ} (f : SoFar text t₀ t s at line) where
   -- the end of the text
-  pub so-ended : {t' : List ℕ} {a : TextAnswer} → length text ≤ at → Replies (readFrom line (readingOf s t) [] t) t' a → Replies (readText text t₀) t' a
+  pub so-ended : {t' : List ℕ} {a : TextAnswer} → length text ≤ at → TextReplies (readFrom line (readingOf s t) [] t) t' a → TextReplies (readText text t₀) t' a
   unfolding readFrom refusedAt linesOf
   so-ended h p =
       let none : drop at text ≡ [] = drop-of-length-le text h in
@@ -122,8 +122,8 @@ module _ {text t₀ t : List ℕ} {s : State} {at line : ℕ} (f : SoFar text t�
     reads-here = ap (λ (ls : List (List ℕ)). readFrom line (readingOf s t) ls t₀) (sym (lines-at text at end d h)) ∙ f .reads
 
     -- it is at fault
-    pub so-faulty : {k : ℕ} {t' t'' : List ℕ} {a : TextAnswer} → Stepped (lineStep (length t) (readingOf s t) (take (end - at) (drop at text))) s t t' (Bad k) →
-        Replies (refusedAt k line (readingOf s t') t') t'' a → Replies (readText text t₀) t'' a
+    pub so-faulty : {k : ℕ} {t' t'' : List ℕ} {a : TextAnswer} → LineRead (lineStep (length t) (readingOf s t) (take (end - at) (drop at text))) s t t' (Bad k) →
+        TextReplies (refusedAt k line (readingOf s t') t') t'' a → TextReplies (readText text t₀) t'' a
     unfolding here readFrom
     so-faulty {k} {t'} w p = replies-as p (refused-same k line s t' t t' t₀ past ∙ stops ∙ reads-here)
       where
@@ -137,7 +137,7 @@ module _ {text t₀ t : List ℕ} {s : State} {at line : ℕ} (f : SoFar text t�
         stops = ap (λ (x : Step). elim x [ bad k ↦ refusedAt k line (readingOf s t) t₀ | next r ↦ readFrom (suc line) r (linesOf (drop (end + 1) text)) t₀ ]) step
 
     -- the reading goes on after it
-    pub so-next : {t' : List ℕ} {s' : State} → Stepped (lineStep (length t) (readingOf s t) (take (end - at) (drop at text))) s t t' (Next s') →
+    pub so-next : {t' : List ℕ} {s' : State} → LineRead (lineStep (length t) (readingOf s t) (take (end - at) (drop at text))) s t t' (Next s') →
         length t' ≡ length t → SoFar text t₀ t' s' (end + 1) (line + 1)
     unfolding here readFrom
     so-next {t'} {s'} w l =

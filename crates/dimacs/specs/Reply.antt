@@ -6,7 +6,7 @@ use Rattle.model.specs.Text.{TextReply, readText}
 use Rattle.dimacs.specs.declared.TextAnswer.{TextAnswer}
 
 -- the answer's four numbers and the table slice are those of a reply
-pub record Replies (reply : TextReply) (slice : List ℕ) (answer : TextAnswer) : Type 0 where
+pub record TextReplies (reply : TextReply) (slice : List ℕ) (answer : TextAnswer) : Type 0 where
   pub refusal : answer .refusal ≡ reply .refused
   pub vertices : answer .vertices ≡ reply .vertices
   pub edges : answer .edges ≡ reply .stated
@@ -15,4 +15,4 @@ pub record Replies (reply : TextReply) (slice : List ℕ) (answer : TextAnswer) 
 
 -- the whole contract of the text reader: a text and a table slice before and after, and the answer
 abbrev pub ReadsAs : List ℕ → List ℕ → List ℕ → TextAnswer → Type 0
-ReadsAs text before after answer = Replies (readText text before) after answer
+ReadsAs text before after answer = TextReplies (readText text before) after answer

@@ -3,9 +3,7 @@ ghost use mathlib.Core.List.{[]};
 ghost use lib.ListN.{length};
 ghost use Rattle.model.specs.Text.{refusedAt, readFrom};
 ghost use Rattle.lines.specs.Line.{readingOf, Fit};
-ghost use Rattle.dimacs.specs.Reply.{Replies, ReadsAs};
-
-
+ghost use Rattle.dimacs.specs.Reply.{TextReplies, ReadsAs};
 use lines::Line;
 use lines::State;
 
@@ -21,7 +19,7 @@ pub struct TextAnswer {
 // Refused: the bytes that a p line claimed become 0, and where none passed there are none.
 fn refuse(table: &mut [u8], s: State, number: u32, line: usize) -> TextAnswer
     requires { ⌜ Fit s (length (now table)) ⌝ }
-    ensures { λ r. ⌜ Replies (refusedAt number line (readingOf s (now (table .entry))) (now (table .entry))) (now (table .exit)) r ⌝ }
+    ensures { λ r. ⌜ TextReplies (refusedAt number line (readingOf s (now (table .entry))) (now (table .entry))) (now (table .exit)) r ⌝ }
 {
     let n = s.vertices;
     lines::table::clear(table, n * n);
@@ -36,7 +34,7 @@ fn refuse(table: &mut [u8], s: State, number: u32, line: usize) -> TextAnswer
 // The end of the text: 33 no p line, 39 M differs.
 fn finish(table: &mut [u8], s: State, line: usize) -> TextAnswer
     requires { ⌜ Fit s (length (now table)) ⌝ }
-    ensures { λ r. ⌜ Replies (readFrom line (readingOf s (now (table .entry))) [] (now (table .entry))) (now (table .exit)) r ⌝ }
+    ensures { λ r. ⌜ TextReplies (readFrom line (readingOf s (now (table .entry))) [] (now (table .entry))) (now (table .exit)) r ⌝ }
 {
     if !s.passed {
         return refuse(table, s, 33, line);

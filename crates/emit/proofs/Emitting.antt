@@ -14,13 +14,14 @@ use Rattle.model.specs.Listing.{takenList, rules}
 use Rattle.isolation.specs.declared.Settings.{Settings}
 use Rattle.isolation.specs.Numbers.{settingsOf}
 use Rattle.walk.specs.declared.State.{State}
-use Rattle.walk.specs.State.{part, Stands}
-use Rattle.emit.specs.Qualify.{Asks, Judged}
+use Rattle.theory.specs.Parts.{part}
+use Rattle.walk.specs.State.{Stands}
+use Rattle.emit.specs.Qualify.{Asks, SaysQualifies}
 use Rattle.emit.specs.Emit.{Emitted}
 use Rattle.emit.proofs.Found.{due-found, due-none}
 use Rattle.emit.proofs.Judging.{length-taken}
 
-module _ {n : ℕ} {t ranks w w₁ : List ℕ} {q : Settings} {s : State} {b : Bool} (a : Asks n t ranks w q s) (j : Judged n t w w₁ q s b) (out : List ℕ) (used : ℕ) where
+module _ {n : ℕ} {t ranks w w₁ : List ℕ} {q : Settings} {s : State} {b : Bool} (a : Asks n t ranks w q s) (j : SaysQualifies n t w w₁ q s b) (out : List ℕ) (used : ℕ) where
   abbrev G : Graph
   G = byTable n t
 

@@ -8,14 +8,7 @@ use native.Mathlib.Omega.{arith}
 use lib.ListN.{length, take, drop, set, getD, length-take, length-drop}
 use lib.Seq.{paste, take-suc-set, drop-set-lt, drop-length, take-all, drop-drop, getD-take, getD-drop}
 use borrow.Rule.Slice.PartMut.{putMid, post-is}
-use Rattle.walk.specs.State.{part}
-
--- the entries of a part
-pub part-length : (w : List ℕ) (a k : ℕ) → a + k ≤ length w → length (part w a k) ≡ k
-part-length w a k h = simp (length-take, length-drop) (omega arith)
-
-pub part-at : (w : List ℕ) (a k j : ℕ) → j < k → getD (part w a k) j 0 ≡ getD w (a + j) 0
-part-at w a k j h = getD-take k (drop a w) j 0 h ∙ getD-drop a w j 0
+use Rattle.theory.specs.Parts.{part}
 
 -- the size and then the members, written over the start of d
 pub group-put : (d s : List ℕ) (k : ℕ) → 0 < length d → length s ≡ k → paste (set d 0 k) 1 s k ≡ (k ∷ s) ++ drop (k + 1) d

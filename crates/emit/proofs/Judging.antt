@@ -16,17 +16,17 @@ use Rattle.theory.specs.Search.{Loopless, Symmetric, Candidates}
 use Rattle.theory.proofs.basics.Tests.{test-and, test-self, fails}
 use Rattle.theory.proofs.basics.Passing.{taken-members, passing-listed}
 use Rattle.theory.proofs.basics.PassingParts.{passing-count}
-use Rattle.graph.proofs.Work.{table-size}
+use Rattle.graph.proofs.Ranks.{table-size}
 use Rattle.graph.proofs.Refusals.{table-accepted}
 use Rattle.isolation.specs.declared.Settings.{Settings}
 use Rattle.isolation.specs.declared.Tally.{Tally}
 use Rattle.isolation.specs.Numbers.{settingsOf, isolatedOf, beatenOf, TallyOf}
-use Rattle.larger.specs.Parts.{part, Kept}
+use Rattle.theory.specs.Parts.{part, Kept}
 use Rattle.larger.specs.Search.{Lent, Posed, Tested}
-use Rattle.larger.proofs.Parts.{part-below, part-above}
+use Rattle.theory.proofs.basics.Parts.{part-below, part-above}
 use Rattle.walk.specs.declared.State.{State}
 use Rattle.walk.specs.State.{takenRanks, leftRanks, Stands}
-use Rattle.emit.specs.Qualify.{joinedOf, candidatesOf, Sifts, Sifted, tallyOf, readTally, TallyFits, Asks, Judged}
+use Rattle.emit.specs.Qualify.{joinedOf, candidatesOf, Sifts, Sifted, tallyOf, readTally, TallyFits, Asks, SaysQualifies}
 use Rattle.walk.proofs.Decided.{taken-length}
 use Rattle.walk.proofs.Standing.{taken-count, left-count, vertex-entry, left-entry}
 use Rattle.emit.proofs.Found.{taken-tally, taken-clique, taken-candidates, found-apart, found-untaken, found-open, found-by}
@@ -142,20 +142,20 @@ module _ {n : ℕ} {t ranks w : List ℕ} {q : Settings} {s : State} (a : Asks n
 
   -- ---- what the tests say
 
-  still : ((p : Position) → Stands G p w s → false ≡ found (rules G (settingsOf q)) p) → Judged n t w w q s false
+  still : ((p : Position) → Stands G p w s → false ≡ found (rules G (settingsOf q)) p) → SaysQualifies n t w w q s false
   still f = record { answer = f; stands = λ p h. h; length-kept = refl }
 
-  pub judged-open : s .decided < n → Judged n t w w q s false
+  pub judged-open : s .decided < n → SaysQualifies n t w w q s false
   judged-open l =
       still (λ p h. let z = table-size n t in let e = h .long in sym (found-open G p (settingsOf q) (s .decided) (omega arith) (h .still-open (s .decided) (omega arith))))
 
   pub length-taken : (p : Position) → Stands G p w s → length (takenList G p) ≡ s .taken
   length-taken p h = taken-length G p ∙ taken-count G p w s h
 
-  pub judged-untaken : s .taken ≡ 0 → Judged n t w w q s false
+  pub judged-untaken : s .taken ≡ 0 → SaysQualifies n t w w q s false
   judged-untaken e = still (λ p h. sym (found-untaken G p (settingsOf q) (length-taken p h ∙ e)))
 
-  pub judged-apart : s .apart ≡ true → Judged n t w w q s false
+  pub judged-apart : s .apart ≡ true → SaysQualifies n t w w q s false
   judged-apart e = still (λ p h. sym (found-apart G p (settingsOf q) (sym (h .apart) ∙ e)))
 
   module _ (all : n ≤ s .decided) (some : 0 < s .taken) (met : s .apart ≡ false) where
@@ -202,7 +202,7 @@ module _ {n : ℕ} {t ranks w : List ℕ} {q : Settings} {s : State} (a : Asks n
       isolated-is p h = ap (isolatedOf q) (sym (e ∙ tally-is p h))
 
       -- the taken set is not isolated
-      pub judged-exposed : isolatedOf q y ≡ false → Judged n t w w q s false
+      pub judged-exposed : isolatedOf q y ≡ false → SaysQualifies n t w w q s false
       judged-exposed f =
           still (λ p h. sym (found-is p h ∙ ap (λ (b : Bool). b && not (beatenOf G q (tallyOf G p) (candidatesOf G p))) (isolated-is p h ∙ f)))
 
@@ -273,7 +273,7 @@ module _ {n : ℕ} {t ranks w : List ℕ} {q : Settings} {s : State} (a : Asks n
                 omega arith
 
         -- an isolated taken set: it qualifies where it is not beaten
-        pub judged-by : isolatedOf q y ≡ true → {w₂ : List ℕ} {b : Bool} → Tested n t w₁ w₂ q y m b → Judged n t w w₂ q s (not b)
+        pub judged-by : isolatedOf q y ≡ true → {w₂ : List ℕ} {b : Bool} → Tested n t w₁ w₂ q y m b → SaysQualifies n t w w₂ q s (not b)
         unfolding byTable onVertices
         judged-by i {w₂} {b} x =
             record {

@@ -11,9 +11,9 @@ use lib.Seq.{take-suc, take-length}
 use Rattle.model.specs.Graph.{byTable, vertexAt}
 use Rattle.theory.specs.Search.{joinedAll}
 use Rattle.theory.proofs.graph.Ranks.{vertex-at}
-use Rattle.graph.proofs.Work.{table-size}
-use Rattle.larger.specs.Parts.{part, Kept, HoldsVertices}
-use Rattle.larger.proofs.Parts.{part-length, part-at, part-push, part-below, kept-none, kept-set}
+use Rattle.graph.proofs.Ranks.{table-size}
+use Rattle.theory.specs.Parts.{part, Kept, HoldsVertices}
+use Rattle.theory.proofs.basics.Parts.{part-length, part-at, part-push, part-below, kept-none, kept-set}
 use Rattle.emit.specs.Qualify.{joinedOf, Sifts, Sifted}
 use Rattle.walk.proofs.Lists.{map-at}
 use Rattle.emit.proofs.Found.{joinedOf-none, joinedOf-push}

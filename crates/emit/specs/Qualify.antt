@@ -10,12 +10,13 @@ use Rattle.model.specs.Walk.{Position, found}
 use Rattle.model.specs.Listing.{takenList, rules}
 use Rattle.model.specs.Calls.{refuseTable}
 use Rattle.theory.specs.Search.{joinedAll}
+use Rattle.graph.specs.Ranks.{HoldsRanks}
 use Rattle.isolation.specs.declared.Settings.{Settings}
 use Rattle.isolation.specs.declared.Tally.{Tally}
 use Rattle.isolation.specs.Numbers.{settingsOf}
-use Rattle.larger.specs.Parts.{part, Kept, HoldsVertices}
+use Rattle.theory.specs.Parts.{part, Kept, HoldsVertices}
 use Rattle.walk.specs.declared.State.{State}
-use Rattle.walk.specs.State.{leftRanks, degreesOf, Ranked, Stands, StandsForOne}
+use Rattle.walk.specs.State.{leftRanks, degreesOf, Stands, StandsForOne}
 
 -- those of the vertices vs that are joined to each of the vertices us, in their order
 unfoldable pub joinedOf : Graph → List ℕ → List ℕ → List ℕ
@@ -28,7 +29,7 @@ candidatesOf G p = joinedOf G (takenList G p) (map (vertexAt G) (leftRanks G p))
 
 -- what `candidates` asks for: the graph's ranks, taken vertices in part 1 of the work slice and left ranks in part 2
 pub record Sifts (n : ℕ) (t ranks w : List ℕ) (taken left : ℕ) : Type 0 where
-  pub ranked : Ranked n t ranks
+  pub ranked : HoldsRanks n t ranks
   pub room : 8 * n ≤ length w
   pub few-taken : taken ≤ n
   pub few-left : left ≤ n
@@ -72,13 +73,13 @@ pub record TallyFits (n : ℕ) (ranks w : List ℕ) (s : State) : Type 0 where
 
 -- what `qualifies` asks for: an accepted table with its ranks, a factor that is not refused, and a state that stands for a position
 pub record Asks (n : ℕ) (t ranks w : List ℕ) (q : Settings) (s : State) : Type 0 where
-  pub ranked : Ranked n t ranks
+  pub ranked : HoldsRanks n t ranks
   pub accepted : refuseTable n t 0 ≡ 0
   pub factor : q .factor ≤ 1024
   pub stands : StandsForOne (byTable n t) w s
 
 -- its answer for each position for which the state stands, and that the state still stands for it
-pub record Judged (n : ℕ) (t before after : List ℕ) (q : Settings) (s : State) (r : Bool) : Type 0 where
+pub record SaysQualifies (n : ℕ) (t before after : List ℕ) (q : Settings) (s : State) (r : Bool) : Type 0 where
   pub answer : (p : Position) → Stands (byTable n t) p before s → r ≡ found (rules (byTable n t) (settingsOf q)) p
   pub stands : (p : Position) → Stands (byTable n t) p before s → Stands (byTable n t) p after s
   pub length-kept : length after ≡ length before

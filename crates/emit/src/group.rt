@@ -3,7 +3,7 @@ ghost use mathlib.Core.Path.{_≡_};
 ghost use mathlib.Core.List.{_∷_, _++_};
 ghost use Prim.Native.Nat.{_+_, _≤_};
 ghost use lib.ListN.{length, take, drop};
-ghost use Rattle.walk.specs.State.{part};
+ghost use Rattle.theory.specs.Parts.{part};
 
 // The entry for a group's size.
 fn size_entry(k: usize) -> u16

@@ -6,10 +6,10 @@ ghost use Prim.Native.Nat.{_≤_};
 ghost use lib.ListN.{length};
 ghost use Rattle.emit.specs.Qualify.{Asks};
 ghost use Rattle.emit.specs.Emit.{Emitted};
-use walk::State;
 use crate::group::put_group;
 use crate::qualify::qualifies;
 use isolation::Settings;
+use walk::State;
 
 // What became of a group: whether it did not fit; the output's used entries then, and the groups put out, 0 or 1; the entries wanted where it did not fit.
 pub struct Put {

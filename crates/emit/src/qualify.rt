@@ -1,12 +1,12 @@
 // Whether the taken set of a position qualifies.
 ghost use mathlib.Core.Path.{_≡_};
-ghost use Rattle.emit.specs.Qualify.{Sifts, Sifted, readTally, TallyFits, Asks, Judged};
-use walk::State;
+ghost use Rattle.emit.specs.Qualify.{Sifts, Sifted, readTally, TallyFits, Asks, SaysQualifies};
 use isolation::Settings;
 use isolation::Tally;
-use larger::beaten;
 use isolation::isolated_by;
+use larger::beaten;
 use larger::joined_to_all;
+use walk::State;
 
 // Writes those of the left neighbours of the pivot, whose ranks are the first `left` entries of part 2 of work, that are joined to each taken vertex, the
 // first `taken` entries of part 1, into part 3, and says how many. Writes nothing else.
@@ -68,7 +68,7 @@ pub fn qualifies(
     n: usize,
 ) -> bool
     requires { ⌜ Asks n (now table) (now ranks) (now work) q s ⌝ }
-    ensures { λ r. ⌜ Judged n (now (table .entry)) (now (work .entry)) (now (work .exit)) q s r ⌝ }
+    ensures { λ r. ⌜ SaysQualifies n (now (table .entry)) (now (work .entry)) (now (work .exit)) q s r ⌝ }
 {
     let d = s.decided;
     let k = s.taken;

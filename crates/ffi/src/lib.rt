@@ -1,7 +1,8 @@
 // The calls as C and Rust link them: a static library of exported functions. Each hands its arguments on and repeats the promise of what it calls.
 // A slice passes as its address and its number of elements.
+ghost use Rattle.model.specs.Groups.{settings};
 ghost use Rattle.dimacs.specs.Reply.{ReadsAs};
-ghost use Rattle.page.specs.Call.{given, PageCalled};
+ghost use Rattle.page.specs.Call.{PageCalled};
 ghost use Rattle.query.specs.Query.{Answers};
 use dimacs::TextAnswer;
 use page::PageAnswer;
@@ -21,7 +22,7 @@ pub extern "C" fn isolated_page(
     budget: u32,
 ) -> PageAnswer
     ensures { λ r. ⌜
-        PageCalled n (now (table .entry)) (given notion kind c) budget (now (position .entry)) (now (output .entry)) (now (work .entry))
+        PageCalled n (now (table .entry)) (settings notion kind c) budget (now (position .entry)) (now (output .entry)) (now (work .entry))
         r (now (position .exit)) (now (output .exit)) (now (work .exit))
         ⌝ }
 {

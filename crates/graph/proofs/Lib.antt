@@ -1,3 +1,3 @@
 -- The laws that the proofs of this crate cite.
 pub mod Refusals
-pub mod Work
+pub mod Ranks

@@ -1,3 +1,3 @@
 -- What the functions over the byte table require and leave behind.
 pub mod Table
-pub mod Work
+pub mod Ranks

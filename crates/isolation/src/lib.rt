@@ -115,4 +115,3 @@ pub fn with_member(t: Tally, d: usize) -> Tally
         largest,
     }
 }
-

@@ -1,4 +1,4 @@
 -- Laws.
-pub mod Parts
+pub mod Joined
 pub mod Turn
 pub mod Maximal

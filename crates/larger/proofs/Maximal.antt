@@ -13,13 +13,13 @@ use Rattle.model.specs.Graph.{Graph, byTable, degree}
 use Rattle.model.specs.Groups.{VertexSet, sizeOf}
 use Rattle.theory.specs.Search.{gather, degreeSum, findLarger, searched, beaten}
 use Rattle.theory.proofs.search.Cut.{search-cut}
-use Rattle.graph.proofs.Work.{table-size, degree-le}
+use Rattle.graph.proofs.Ranks.{table-size, degree-le}
 use Rattle.isolation.specs.declared.Settings.{Settings}
 use Rattle.isolation.specs.declared.Tally.{Tally}
 use Rattle.isolation.specs.Numbers.{findOf, beatenOf}
-use Rattle.larger.specs.Parts.{part}
+use Rattle.theory.specs.Parts.{part}
 use Rattle.larger.specs.Search.{Lent, Room, Searched, Posed, Tested}
-use Rattle.larger.proofs.Parts.{part-length, part-at, kept-none}
+use Rattle.theory.proofs.basics.Parts.{part-length, part-at, kept-none}
 
 -- numbers of at most 1,024, summed over the members
 gather-small : (n : ℕ) (S : VertexSet) (f : ℕ → ℕ) → ((i : ℕ) → f i ≤ 1024) → gather _+_ 0 n S f ≤ 1024 * count n S

@@ -12,13 +12,13 @@ use Rattle.model.specs.Graph.{Graph, byTable, degree}
 use Rattle.theory.specs.Search.{joinedAll}
 use Rattle.theory.proofs.basics.Tests.{trichotomy}
 use Rattle.theory.proofs.search.Steps.{cut-end, cut-hopeless, cut-apart, cut-here, cut-deeper, cut-next}
-use Rattle.graph.proofs.Work.{degree-le}
+use Rattle.graph.proofs.Ranks.{degree-le}
 use Rattle.isolation.specs.declared.Settings.{Settings}
 use Rattle.isolation.specs.declared.Tally.{Tally}
 use Rattle.isolation.specs.Numbers.{withMember, isolatedOf, hopelessOf, findOf}
-use Rattle.larger.specs.Parts.{part, Kept, HoldsVertices}
+use Rattle.theory.specs.Parts.{part, Kept, HoldsVertices}
 use Rattle.larger.specs.Search.{Lent, Room, Searched}
-use Rattle.larger.proofs.Parts.{part-length, part-at, part-push, kept-none, kept-set, kept-then, part-below, part-above}
+use Rattle.theory.proofs.basics.Parts.{part-length, part-at, part-push, kept-none, kept-set, kept-then, part-below, part-above}
 
 -- those that the search has added, and the candidates
 abbrev pub addedIn : ℕ → List ℕ → Tally → ℕ → List ℕ

@@ -1,3 +1,2 @@
 -- Specs.
-pub mod Parts
 pub mod Search

@@ -10,16 +10,16 @@ use Rattle.model.specs.Groups.{VertexSet}
 use Rattle.model.specs.Meaning.{Clique}
 use Rattle.theory.specs.Search.{Loopless, Symmetric, Candidates}
 use Rattle.graph.specs.Table.{TableFits}
-use Rattle.graph.specs.Work.{WorkFits, HoldsDegrees}
+use Rattle.graph.specs.Ranks.{RanksFit, HoldsDegrees}
 use Rattle.isolation.specs.declared.Settings.{Settings}
 use Rattle.isolation.specs.declared.Tally.{Tally}
 use Rattle.isolation.specs.Numbers.{findOf, beatenOf, TallyOf}
-use Rattle.larger.specs.Parts.{part, Kept, HoldsVertices}
+use Rattle.theory.specs.Parts.{part, Kept, HoldsVertices}
 
 -- the table holds a graph of n vertices, the ranks its degrees, and the work slice has the parts 0 to 3
 pub record Lent (n : ℕ) (t ranks w : List ℕ) : Type 0 where
   pub table : TableFits n t
-  pub ranks-fit : WorkFits n ranks
+  pub ranks-fit : RanksFit n ranks
   pub degrees : HoldsDegrees n (byTable n t) ranks
   pub parts : 4 * n ≤ length w
 

@@ -6,7 +6,7 @@ ghost use Rattle.model.specs.Graph.{byTable};
 ghost use Rattle.model.specs.Listing.{is};
 ghost use Rattle.theory.specs.Search.{joinedAll};
 ghost use Rattle.graph.specs.Table.{TableFits};
-ghost use Rattle.larger.specs.Parts.{part, HoldsVertices};
+ghost use Rattle.theory.specs.Parts.{part, HoldsVertices};
 ghost use Rattle.larger.specs.Search.{Lent, Room, Searched, Posed, Tested};
 use isolation::Settings;
 use isolation::Tally;
@@ -96,4 +96,3 @@ pub fn beaten(
     }
     search(table, ranks, work, n, s, y, y.members, 0, m)
 }
-

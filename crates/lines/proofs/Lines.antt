@@ -11,7 +11,7 @@ use lib.Dec.{eqb}
 use borrow.Author.Tests.{ne-eqb, eqb-true, not-true, not-false}
 use Rattle.model.specs.Text.{Reading, bad, next, fault, lineStep, unspaced, fieldsOf, pFields, eFields, pLine, eLine, same, two}
 use Rattle.number.specs.Field.{twoOf}
-use Rattle.lines.specs.Line.{Letter}
+use Rattle.lines.specs.Line.{FirstByte}
 use Rattle.number.proofs.Fields.{Fields, fields-some}
 
 -- ---- the byte after the first letter
@@ -42,7 +42,7 @@ spaced-long (x ∷ []) e = absurd (false≢true (sym e))
 spaced-long (x ∷ y ∷ l) e = omega arith
 
 -- a first letter and a space
-pub spaced-line : (b : ℕ) (line : List ℕ) → Letter b line → unspaced (drop 1 line) ≡ false → line ≡ b ∷ 32 ∷ drop 2 line
+pub spaced-line : (b : ℕ) (line : List ℕ) → FirstByte b line → unspaced (drop 1 line) ≡ false → line ≡ b ∷ 32 ∷ drop 2 line
 unfolding unspaced
 spaced-line b [] h e = absurd (not-suc-le-zero (h .some))
 spaced-line b (x ∷ []) h e = absurd (false≢true (sym e))
@@ -56,17 +56,17 @@ module _ (room : ℕ) (r : Reading) where
   line-empty [] h = refl
   line-empty (x ∷ l) h = absurd (omega arith)
 
-  pub line-comment : (line : List ℕ) → Letter 99 line → fault 31 (not (eqb (length (drop 1 line)) 0) && unspaced (drop 1 line)) (next r) ≡ lineStep room r line
+  pub line-comment : (line : List ℕ) → FirstByte 99 line → fault 31 (not (eqb (length (drop 1 line)) 0) && unspaced (drop 1 line)) (next r) ≡ lineStep room r line
   unfolding lineStep
   line-comment [] h = absurd (not-suc-le-zero (h .some))
   line-comment (x ∷ l) h = rw (h .first)
 
-  pub line-problem : (line : List ℕ) → Letter 112 line → fault 31 (unspaced (drop 1 line)) (fault 34 (r .passed) (pFields room (fieldsOf line))) ≡ lineStep room r line
+  pub line-problem : (line : List ℕ) → FirstByte 112 line → fault 31 (unspaced (drop 1 line)) (fault 34 (r .passed) (pFields room (fieldsOf line))) ≡ lineStep room r line
   unfolding lineStep
   line-problem [] h = absurd (not-suc-le-zero (h .some))
   line-problem (x ∷ l) h = rw (h .first)
 
-  pub line-edge : (line : List ℕ) → Letter 101 line → fault 31 (unspaced (drop 1 line)) (fault 33 (not (r .passed)) (eFields r (fieldsOf line))) ≡ lineStep room r line
+  pub line-edge : (line : List ℕ) → FirstByte 101 line → fault 31 (unspaced (drop 1 line)) (fault 33 (not (r .passed)) (eFields r (fieldsOf line))) ≡ lineStep room r line
   unfolding lineStep
   line-edge [] h = absurd (not-suc-le-zero (h .some))
   line-edge (x ∷ l) h = rw (h .first)
@@ -85,7 +85,7 @@ edge-two r f (a ∷ []) = refl
 edge-two r f (a ∷ b ∷ []) = refl
 edge-two r f (a ∷ b ∷ g ∷ fs) = refl
 
-pub edge-fields : (r : Reading) (line : List ℕ) → Letter 101 line → unspaced (drop 1 line) ≡ false → eFields r (fieldsOf line) ≡ twoOf (fieldsOf (drop 2 line)) (eLine r)
+pub edge-fields : (r : Reading) (line : List ℕ) → FirstByte 101 line → unspaced (drop 1 line) ≡ false → eFields r (fieldsOf line) ≡ twoOf (fieldsOf (drop 2 line)) (eLine r)
 unfolding fieldsOf
 edge-fields r line h e = ap (λ (l : List ℕ). eFields r (fieldsOf l)) (spaced-line 101 line h e) ∙ edge-two r (101 ∷ []) (fieldsOf (drop 2 line))
 
@@ -123,7 +123,7 @@ same-equal (x ∷ w) (y ∷ v) e = go (eqb x y) refl (same-equal w v) e
     go false q tail h = absurd (false≢true h)
 
 -- a line that starts otherwise
-pub problem-other : (room : ℕ) (line : List ℕ) → Letter 112 line → unspaced (drop 1 line) ≡ false → (take 6 line ≡ p-edge → ⊥) → bad 32 ≡ pFields room (fieldsOf line)
+pub problem-other : (room : ℕ) (line : List ℕ) → FirstByte 112 line → unspaced (drop 1 line) ≡ false → (take 6 line ≡ p-edge → ⊥) → bad 32 ≡ pFields room (fieldsOf line)
 unfolding fieldsOf fault
 problem-other room line h e other =
     sym
@@ -175,7 +175,7 @@ problem-fields room line s h e =
 
 -- ---- a line by its tests
 
-module _ (room : ℕ) (r : Reading) (line : List ℕ) (h : Letter 101 line) where
+module _ (room : ℕ) (r : Reading) (line : List ℕ) (h : FirstByte 101 line) where
   pub edge-31 : unspaced (drop 1 line) ≡ true → bad 31 ≡ lineStep room r line
   unfolding fault
   edge-31 u = rw u at (line-edge room r line h)
@@ -188,7 +188,7 @@ module _ (room : ℕ) (r : Reading) (line : List ℕ) (h : Letter 101 line) wher
   unfolding fault
   edge-goes u p = sym (edge-fields r line h u) ∙ ap (λ (b : Bool). fault 33 (not b) (eFields r (fieldsOf line))) (sym p) ∙ (rw u at (line-edge room r line h))
 
-module _ (room : ℕ) (r : Reading) (line : List ℕ) (h : Letter 112 line) where
+module _ (room : ℕ) (r : Reading) (line : List ℕ) (h : FirstByte 112 line) where
   pub problem-31 : unspaced (drop 1 line) ≡ true → bad 31 ≡ lineStep room r line
   unfolding fault
   problem-31 u = rw u at (line-problem room r line h)
@@ -202,7 +202,7 @@ module _ (room : ℕ) (r : Reading) (line : List ℕ) (h : Letter 112 line) wher
   problem-goes u p = ap (λ (b : Bool). fault 34 b (pFields room (fieldsOf line))) (sym p) ∙ (rw u at (line-problem room r line h))
 
 -- a comment, as the test for one says
-module _ (room : ℕ) (r : Reading) (line : List ℕ) (h : Letter 99 line) (b : Bool)
+module _ (room : ℕ) (r : Reading) (line : List ℕ) (h : FirstByte 99 line) (b : Bool)
     (e : b ≡ not (not (eqb (length (drop 1 line)) 0) && unspaced (drop 1 line))) where
   pub comment-passes : b ≡ true → next r ≡ lineStep room r line
   unfolding fault

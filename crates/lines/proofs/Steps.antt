@@ -1,4 +1,4 @@
--- The promise `Stepped` of a line's readers, case by case. Assumes nothing.
+-- The promise `LineRead` of a line's readers, case by case. Assumes nothing.
 use Prim.Native.Nat.{ℕ, _+_, _*_, _-_, _≤_, _<_}
 use mathlib.Core.Path.{_≡_, refl, sym, subst, _∙_}
 use mathlib.Core.Bool.{true, false≢true}
@@ -8,25 +8,25 @@ use native.Mathlib.Omega.{arith}
 use lib.ListN.{length, getD, take, drop, set, replicate, length-replicate}
 use lib.Seq.{getD-take, take-set-lt, drop-set-lt, take-at, drop-at}
 use Rattle.model.specs.Text.{Step, bad, next, eLine, pLine, joinPair}
-use Rattle.lines.specs.Line.{readingOf, start, Fit, Stepped}
+use Rattle.lines.specs.Line.{readingOf, start, Fit, LineRead}
 use Rattle.lines.specs.declared.State.{State}
 use Rattle.lines.specs.declared.Line.{Line}
 use Rattle.lines.specs.declared.Line.the-variants.{Bad, Next}
 use Rattle.lines.proofs.Cells.{Ranged, cell, turned, edge-again, edge-joined, problem-passed}
 
 -- the same promise of an equal step, and of an equal answer
-pub stepped-as : {x y : Step} {s : State} {t t' : List ℕ} {r : Line} → Stepped x s t t' r → x ≡ y → Stepped y s t t' r
+pub stepped-as : {x y : Step} {s : State} {t t' : List ℕ} {r : Line} → LineRead x s t t' r → x ≡ y → LineRead y s t t' r
 stepped-as p e = record { step = p .step ∙ e; kept = p .kept }
 
-pub stepped-at : {x : Step} {s : State} {t t' : List ℕ} {r r' : Line} → Stepped x s t t' r → r ≡ r' → Stepped x s t t' r'
-stepped-at {x} {s} {t} {t'} p e = subst (λ (r : Line). Stepped x s t t' r) e p
+pub stepped-at : {x : Step} {s : State} {t t' : List ℕ} {r r' : Line} → LineRead x s t t' r → r ≡ r' → LineRead x s t t' r'
+stepped-at {x} {s} {t} {t'} p e = subst (λ (r : Line). LineRead x s t t' r) e p
 
 -- a line at fault leaves the slice alone
-pub faulty : {k : ℕ} {wanted : Step} {s : State} {t : List ℕ} → bad k ≡ wanted → Stepped wanted s t t (Bad k)
+pub faulty : {k : ℕ} {wanted : Step} {s : State} {t : List ℕ} → bad k ≡ wanted → LineRead wanted s t t (Bad k)
 faulty e = record { step = e; kept = refl }
 
 -- a comment changes nothing
-pub unchanged : {wanted : Step} {s : State} {t : List ℕ} → Fit s (length t) → next (readingOf s t) ≡ wanted → Stepped wanted s t t (Next s)
+pub unchanged : {wanted : Step} {s : State} {t : List ℕ} → Fit s (length t) → next (readingOf s t) ≡ wanted → LineRead wanted s t t (Next s)
 unchanged f e = record { step = e; kept = record { fit = f; rest = refl; grows = omega arith; counted = omega arith } }
 
 -- ---- an e line in form, of two vertices
@@ -41,7 +41,7 @@ module _ (s : State) (t : List ℕ) (u v : ℕ) (fit : Fit s (length t)) (h : Ra
 
   -- both cells are set, within the table
   pub joined : (u ≡ v → ⊥) → (getD t ((u - 1) * s .vertices + (v - 1)) 0 ≡ 1 → ⊥) →
-      Stepped (eLine (readingOf s t) u v) s t (set (set t ((u - 1) * s .vertices + (v - 1)) 1) ((v - 1) * s .vertices + (u - 1)) 1)
+      LineRead (eLine (readingOf s t) u v) s t (set (set t ((u - 1) * s .vertices + (v - 1)) 1) ((v - 1) * s .vertices + (u - 1)) 1)
       (Next (record { passed = true; vertices = s .vertices; stated = s .stated; edges = s .edges + 1 }))
   unfolding joinPair
   joined e f =
@@ -67,7 +67,7 @@ module _ (s : State) (t : List ℕ) (u v : ℕ) (fit : Fit s (length t)) (h : Ra
 
 -- the slice's first N × N bytes are 0
 pub cleared : (t t' : List ℕ) (n m : ℕ) → n ≤ 1024 → n * n ≤ length t → m < 1000000 → t' ≡ replicate (n * n) 0 ++ drop (n * n) t →
-    Stepped (pLine (length t) n m) start t t' (Next (record { passed = true; vertices = n; stated = m; edges = 0 }))
+    LineRead (pLine (length t) n m) start t t' (Next (record { passed = true; vertices = n; stated = m; edges = 0 }))
 cleared t t' n m h g k e =
     let zeros = length-replicate {A = ℕ} (n * n) 0 in
     record {
@@ -82,7 +82,7 @@ cleared t t' n m h g k e =
     }
 
 -- a p line is the first, so that nothing was claimed before it
-pub from-start : {x : Step} {s : State} {t t' : List ℕ} {r : Line} → s .vertices ≡ 0 → Stepped x start t t' r → Stepped x s t t' r
+pub from-start : {x : Step} {s : State} {t t' : List ℕ} {r : Line} → s .vertices ≡ 0 → LineRead x start t t' r → LineRead x s t t' r
 from-start {r = Bad k} e p = record { step = p .step; kept = p .kept }
 from-start {r = Next s'} e p =
     let w = p .kept in

@@ -10,7 +10,7 @@ use Rattle.lines.specs.declared.Line.{Line}
 use Rattle.lines.specs.declared.Line.the-variants.{Bad, Next}
 
 -- a line's first byte
-pub record Letter (b : ℕ) (line : List ℕ) : Type 0 where
+pub record FirstByte (b : ℕ) (line : List ℕ) : Type 0 where
   pub some : 0 < length line
   pub first : getD line 0 0 ≡ b
 
@@ -48,11 +48,11 @@ pub record Went (s s' : State) (before after : List ℕ) : Type 0 where
   pub counted : s' .edges ≤ s .edges + 1
 
 -- a faulty line writes nothing
-abbrev pub Kept : State → List ℕ → List ℕ → Line → Type 0
-Kept s before after (Bad k) = after ≡ before
-Kept s before after (Next s') = Went s s' before after
+abbrev pub Carried : State → List ℕ → List ℕ → Line → Type 0
+Carried s before after (Bad k) = after ≡ before
+Carried s before after (Next s') = Went s s' before after
 
 -- a line, or a part of it, is read as the definition's step says
-pub record Stepped (wanted : Step) (s : State) (before after : List ℕ) (r : Line) : Type 0 where
+pub record LineRead (wanted : Step) (s : State) (before after : List ℕ) (r : Line) : Type 0 where
   pub step : stepOf r after ≡ wanted
-  pub kept : Kept s before after r
+  pub kept : Carried s before after r

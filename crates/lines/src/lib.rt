@@ -7,7 +7,7 @@ ghost use Prim.Native.Nat.{_+_, _<_, _^_};
 ghost use lib.ListN.{length, take, drop};
 ghost use lib.Dec.{eqb};
 ghost use Rattle.model.specs.Text.{pLine, eLine, lineStep, unspaced};
-ghost use Rattle.lines.specs.Line.{Letter, readingOf, start, Fit, Stepped};
+ghost use Rattle.lines.specs.Line.{FirstByte, readingOf, start, Fit, LineRead};
 use number::Pair;
 
 // What the lines so far say: whether a p line passed, its N and M, and the count of e lines.
@@ -58,7 +58,7 @@ fn comment(line: &[u8]) -> bool
 // A p line's numbers: 35 N over 1,024; 40 table under N × N.
 fn problem(table: &mut [u8], n: usize, m: usize) -> Line
     requires { ⌜ m < 1000000 ⌝ }
-    ensures { λ r. ⌜ Stepped (pLine (length (now (table .entry))) n m) start (now (table .entry)) (now (table .exit)) r ⌝ }
+    ensures { λ r. ⌜ LineRead (pLine (length (now (table .entry))) n m) start (now (table .entry)) (now (table .exit)) r ⌝ }
 {
     if 1024 < n {
         return Line::Bad(35);
@@ -80,7 +80,7 @@ fn problem(table: &mut [u8], n: usize, m: usize) -> Line
 fn edge(table: &mut [u8], s: State, u: usize, v: usize) -> Line
     requires { ⌜ Fit s (length (now table)) ⌝ }
     requires { ⌜ s .edges + 1 < 2 ^ 64 ⌝ }
-    ensures { λ r. ⌜ Stepped (eLine (readingOf s (now (table .entry))) u v) s (now (table .entry)) (now (table .exit)) r ⌝ }
+    ensures { λ r. ⌜ LineRead (eLine (readingOf s (now (table .entry))) u v) s (now (table .entry)) (now (table .exit)) r ⌝ }
 {
     let n = s.vertices;
     if u == 0 {
@@ -117,9 +117,9 @@ fn edge(table: &mut [u8], s: State, u: usize, v: usize) -> Line
 
 // A line that starts with p: 31 no space after it; 34 a second p line; 32 another fault of form; then its numbers.
 fn problem_line(line: &[u8], table: &mut [u8], s: State) -> Line
-    requires { ⌜ Letter 112 (now line) ⌝ }
+    requires { ⌜ FirstByte 112 (now line) ⌝ }
     requires { ⌜ Fit s (length (now table)) ⌝ }
-    ensures { λ r. ⌜ Stepped (lineStep (length (now (table .entry))) (readingOf s (now (table .entry))) (now (line .entry))) s (now (table .entry)) (now (table .exit)) r ⌝ }
+    ensures { λ r. ⌜ LineRead (lineStep (length (now (table .entry))) (readingOf s (now (table .entry))) (now (line .entry))) s (now (table .entry)) (now (table .exit)) r ⌝ }
 {
     if !spaced(line) {
         return Line::Bad(31);
@@ -146,10 +146,10 @@ fn problem_line(line: &[u8], table: &mut [u8], s: State) -> Line
 
 // A line that starts with e: 31 no space after it; 33 no p line before it; 32 another fault of form; then its numbers.
 fn edge_line(line: &[u8], table: &mut [u8], s: State) -> Line
-    requires { ⌜ Letter 101 (now line) ⌝ }
+    requires { ⌜ FirstByte 101 (now line) ⌝ }
     requires { ⌜ Fit s (length (now table)) ⌝ }
     requires { ⌜ s .edges + 1 < 2 ^ 64 ⌝ }
-    ensures { λ r. ⌜ Stepped (lineStep (length (now (table .entry))) (readingOf s (now (table .entry))) (now (line .entry))) s (now (table .entry)) (now (table .exit)) r ⌝ }
+    ensures { λ r. ⌜ LineRead (lineStep (length (now (table .entry))) (readingOf s (now (table .entry))) (now (line .entry))) s (now (table .entry)) (now (table .exit)) r ⌝ }
 {
     if !spaced(line) {
         return Line::Bad(31);
@@ -167,7 +167,7 @@ fn edge_line(line: &[u8], table: &mut [u8], s: State) -> Line
 pub fn read_line(line: &[u8], table: &mut [u8], s: State) -> Line
     requires { ⌜ Fit s (length (now table)) ⌝ }
     requires { ⌜ s .edges + 1 < 2 ^ 64 ⌝ }
-    ensures { λ r. ⌜ Stepped (lineStep (length (now (table .entry))) (readingOf s (now (table .entry))) (now (line .entry))) s (now (table .entry)) (now (table .exit)) r ⌝ }
+    ensures { λ r. ⌜ LineRead (lineStep (length (now (table .entry))) (readingOf s (now (table .entry))) (now (line .entry))) s (now (table .entry)) (now (table .exit)) r ⌝ }
 {
     if line.len() == 0 {
         return Line::Bad(31);

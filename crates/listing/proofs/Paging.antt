@@ -10,7 +10,7 @@ use lib.ListN.{length, take, replicate}
 use borrow.Author.Tests.{eqb-true, eqb-false}
 use Rattle.model.specs.Graph.{byTable}
 use Rattle.model.specs.Groups.{Settings}
-use Rattle.model.specs.Walk.{Position, Rules, fresh, finished, page, lasts, fullList}
+use Rattle.model.specs.Walk.{Position, Rules, fresh, finished, page, lasts, fullList, stoppedFinished}
 use Rattle.model.specs.Listing.{rules}
 use Rattle.model.specs.Calls.{refuseTable, refuseSettings, refusePage, PageReply, pageCall}
 use Rattle.model.specs.Demand.{leftAt, joinedOutput, allSteps, allGroups, SomeFinished, Demand3}
@@ -25,7 +25,7 @@ use Rattle.theory.proofs.calls.Next.{demand-accepted}
 use Rattle.theory.proofs.program.Printed.{pages-printed, held-add}
 use Rattle.theory.proofs.program.Program.{all-groups, pages-print}
 use Rattle.page.specs.declared.PageAnswer.{PageAnswer}
-use Rattle.page.specs.Answer.{Replies}
+use Rattle.page.specs.Answer.{PageReplies}
 use Rattle.listing.specs.declared.Turn.{Turn}
 use Rattle.listing.specs.declared.totals.Totals.{Totals}
 use Rattle.listing.specs.List.{turnReply, Turned, Paged, Ran}
@@ -40,7 +40,7 @@ fresh-part (suc n) (suc m) h = ap (λ (l : List ℕ). 0 ∷ l) (fresh-part n m (
 
 -- the used entries are within the output
 pub used-fits : (n : ℕ) (t : List ℕ) (s : Settings) (budget : ℕ) (p : Position) (out : List ℕ) (work : ℕ) {a : PageAnswer} {left after : List ℕ}
-    → Replies a left after (pageCall n t s budget p out work) → a .used ≤ length after
+    → PageReplies a left after (pageCall n t s budget p out work) → a .used ≤ length after
 used-fits n t s budget p out work e =
     let b = page-bounds n t s budget p out work in
     let u = b .used-within in
@@ -70,7 +70,7 @@ unfolding allSteps
 steps-more [] r = omega arith
 steps-more (q ∷ rs) r = let h = steps-more rs r in omega arith
 
-ended-more : (rs : List PageReply) (r : PageReply) → r .refused ≡ 0 → r .stop ≡ 1 → SomeFinished (rs ++ (r ∷ []))
+ended-more : (rs : List PageReply) (r : PageReply) → r .refused ≡ 0 → r .stop ≡ stoppedFinished → SomeFinished (rs ++ (r ∷ []))
 ended-more [] r a b = inl (a, b)
 ended-more (q ∷ rs) r a b = inr (ended-more rs r a b)
 
@@ -118,16 +118,16 @@ module _ (n : ℕ) (t : List ℕ) (s : Settings) where
         }
 
     -- it said Finished
-    ended : pageCall n t s budget p out work .stop ≡ 1 → SomeFinished (paged-more .replies)
+    ended : pageCall n t s budget p out work .stop ≡ stoppedFinished → SomeFinished (paged-more .replies)
     unfolding paged-more
     ended e = ended-more (paged .replies) (pageCall n t s budget p out work) accepted e
 
-    whole : pageCall n t s budget p out work .stop ≡ 1
+    whole : pageCall n t s budget p out work .stop ≡ stoppedFinished
         → (joinedOutput (paged-more .replies) ≡ fullList (rules (byTable n t) s) n) × (lasts (rules (byTable n t) s) (allSteps (paged-more .replies)) (fresh n) ≡ true)
     whole e =
         chain-demand (rules (byTable n t) s) n (table-lawful n t s valid) (paged-more .replies) (paged-more .chain) .whole (ended e)
 
-    paged-ran : pageCall n t s budget p out work .stop ≡ 1
+    paged-ran : pageCall n t s budget p out work .stop ≡ stoppedFinished
         → Ran n t s (record { groups = held (g + pageCall n t s budget p out work .groups); steps = held (k + pageCall n t s budget p out work .steps) })
     paged-ran e =
         record {
@@ -142,7 +142,7 @@ module _ (n : ℕ) (t : List ℕ) (s : Settings) where
         }
 
     -- it did not
-    unfinished : pageCall n t s budget p out work .stop ≢ 1 → finished p ≡ false
+    unfinished : pageCall n t s budget p out work .stop ≢ stoppedFinished → finished p ≡ false
     unfinished d =
         fails (finished p) (λ f. d (answered .1 accepted .1 (went-finished (rules (byTable n t) s) p _ _ _ _ (answered .0) f)))
 
@@ -151,7 +151,7 @@ module _ (n : ℕ) (t : List ℕ) (s : Settings) where
         subst (λ (q : Position). Fit n q) (sym (demand .reached) ∙ paged .left)
         (after-valid (rules (byTable n t) s) n (table-lawful n t s valid) (allSteps (paged .replies)) (fresh n) (fresh-fit n))
 
-    paged-falls : pageCall n t s budget p out work .stop ≢ 1 → 1 ≤ budget → n + 1 ≤ length out → weight n (pageCall n t s budget p out work .position) < weight n p
+    paged-falls : pageCall n t s budget p out work .stop ≢ stoppedFinished → 1 ≤ budget → n + 1 ≤ length out → weight n (pageCall n t s budget p out work .position) < weight n p
     paged-falls d b l =
         subst (λ (q : Position). weight n q < weight n p) (answered .0 .to)
         (stretch-falls (rules (byTable n t) s) n (table-lawful n t s valid) (pageCall n t s budget p out work .steps) p fit

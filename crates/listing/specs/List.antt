@@ -8,7 +8,7 @@ use lib.ListN.{length, take}
 use lib.Dec.{eqb}
 use Rattle.model.specs.Graph.{byTable}
 use Rattle.model.specs.Groups.{Settings}
-use Rattle.model.specs.Walk.{Position, fresh, lasts, fullSets, fullList}
+use Rattle.model.specs.Walk.{Position, fresh, lasts, fullSets, fullList, stoppedFinished}
 use Rattle.model.specs.Listing.{rules}
 use Rattle.model.specs.Calls.{refuseTable, refuseSettings, PageReply, pageCall}
 use Rattle.model.specs.Demand.{leftAt, allSteps, allGroups, SomeFinished}
@@ -25,13 +25,13 @@ turnReply n t s p out work = pageCall n t s 4294967295 p out work
 -- a page from p leaves its position, its numbers, and its used entries printed from the buffer's start on
 pub record Turned (n : ℕ) (t : List ℕ) (s : Settings) (p out : List ℕ) (work : ℕ) (bytes left printed' : List ℕ) (r : Turn) : Type 0 where
   pub position : left ≡ turnReply n t s p out work .position
-  pub finished : r .finished ≡ eqb (turnReply n t s p out work .stop) 1
+  pub finished : r .finished ≡ eqb (turnReply n t s p out work .stop) stoppedFinished
   pub groups : r .groups ≡ turnReply n t s p out work .groups
   pub steps : r .steps ≡ turnReply n t s p out work .steps
   pub puts : Puts bytes 0 (printed (take (turnReply n t s p out work .used) (turnReply n t s p out work .output))) printed' (r .printed)
 
 -- a graph's table and settings without fault, its fresh position, and room for any record, for the work and for what is printed
-pub record Begins (n : ℕ) (t : List ℕ) (s : Settings) (p out work bytes : List ℕ) : Type 0 where
+pub record ListBegins (n : ℕ) (t : List ℕ) (s : Settings) (p out work bytes : List ℕ) : Type 0 where
   pub table : refuseTable n t 0 ≡ 0
   pub settings : refuseSettings s 0 ≡ 0
   pub start : p ≡ fresh n

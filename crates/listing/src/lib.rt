@@ -4,12 +4,12 @@ pub mod totals;
 ghost use Prim.Native.Nat.{_*_, _≤_};
 ghost use lib.ListN.{length};
 ghost use Rattle.isolation.specs.Numbers.{settingsOf};
-ghost use Rattle.listing.specs.List.{Turned, Begins, Ran};
-use print::print_entries;
+ghost use Rattle.listing.specs.List.{Turned, ListBegins, Ran};
 use crate::totals::Totals;
 use crate::totals::held_add;
-use libc::STDOUT_FILENO;
 use isolation::Settings;
+use libc::STDOUT_FILENO;
+use print::print_entries;
 
 // What a page brought: whether it said Finished, its groups and steps, and how many bytes are printed of it.
 pub struct Turn {
@@ -65,7 +65,7 @@ pub fn list_all(
     n: usize,
     s: Settings,
 ) -> Totals
-    requires { ⌜ Begins n (now table) (settingsOf s) (now position) (now output) (now work) (now bytes) ⌝ }
+    requires { ⌜ ListBegins n (now table) (settingsOf s) (now position) (now output) (now work) (now bytes) ⌝ }
     ensures { λ r. ⌜ Ran n (now (table .entry)) (settingsOf s) r ⌝ }
 {
     let mut groups: u32 = 0;

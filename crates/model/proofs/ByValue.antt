@@ -10,14 +10,14 @@ use Rattle.model.specs.Compute.{compute}
 use Rattle.model.specs.Walk.{fresh, page}
 use Rattle.model.specs.Listing.{rules}
 use Rattle.model.specs.Calls.{replyOf, refuse, refuseSettings, refusePage, pageCall}
-use Rattle.model.specs.Worked.{settings, Gives, one, unjoined, triangle, clawTable, claw, wroteNothing, Worked, Pinned}
+use Rattle.model.specs.Groups.{settings}
+use Rattle.model.specs.Worked.{Gives, one, unjoined, triangle, clawTable, claw, wroteNothing, Worked, Pinned}
 
 -- what K1 to K10 leave open
 pub pinned : (x : ℕ) → Pinned x
 unfolding compute
 pinned x =
     record {
-      budget = refl;
       room = refl;
       whole = refl;
       budget-fresh = refl;

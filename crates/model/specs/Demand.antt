@@ -9,7 +9,7 @@ use lib.ListN.{length, take, drop}
 use Rattle.model.specs.Graph.{byTable}
 use Rattle.model.specs.Groups.{Settings, VertexSet}
 use Rattle.model.specs.Meaning.{Qualifies}
-use Rattle.model.specs.Walk.{Position, Rules, fresh, finished, after, lasts, records, fullSets, fullList}
+use Rattle.model.specs.Walk.{Position, Rules, fresh, finished, after, lasts, records, fullSets, fullList, stoppedFinished}
 use Rattle.model.specs.Listing.{rules}
 use Rattle.model.specs.Calls.{refuseTable, PageReply, pageCall}
 
@@ -84,12 +84,12 @@ pub record Prefix (R : Rules) (n k : ℕ) (es : List ℕ) (g : ℕ) : Type 0 whe
 -- an accepted call has said Finished exactly when it left the position finished
 abbrev pub SaidFinished : List PageReply → Type 0
 SaidFinished [] = Unit {0}
-SaidFinished (r ∷ rs) = (r .refused ≡ 0 → (r .stop ≡ 1) ↔ (finished (r .position) ≡ true)) × SaidFinished rs
+SaidFinished (r ∷ rs) = (r .refused ≡ 0 → (r .stop ≡ stoppedFinished) ↔ (finished (r .position) ≡ true)) × SaidFinished rs
 
 -- some accepted call has said Finished
 abbrev pub SomeFinished : List PageReply → Type 0
 SomeFinished [] = ⊥
-SomeFinished (r ∷ rs) = ((r .refused ≡ 0) × (r .stop ≡ 1)) ⊎ SomeFinished rs
+SomeFinished (r ∷ rs) = ((r .refused ≡ 0) × (r .stop ≡ stoppedFinished)) ⊎ SomeFinished rs
 
 -- "After the list:"
 pub record Demand3 (R : Rules) (n : ℕ) (rs : List PageReply) : Type 0 where

@@ -88,8 +88,8 @@ edges (problem n m ∷ xs) = edges xs
 edges (edge u v ∷ xs) = suc (edges xs)
 
 -- some e line has this pair, in either direction
-abbrev pub Joins : List Line → ℕ → ℕ → Type 0
-Joins xs u v = List·Memᴰ (edge u v) xs ⊎ List·Memᴰ (edge v u) xs
+abbrev pub HasPair : List Line → ℕ → ℕ → Type 0
+HasPair xs u v = List·Memᴰ (edge u v) xs ⊎ List·Memᴰ (edge v u) xs
 
 -- "U and V are from 1 to N", and differ
 pub record Ends (n u v : ℕ) : Type 0 where
@@ -109,13 +109,13 @@ pub record Drawn (room n m : ℕ) (xs : List Line) : Type 0 where
   pub small : n ≤ 1024
   pub fits : n * n ≤ room
   pub ends : (u v : ℕ) → List·Memᴰ (edge u v) xs → Ends n u v
-  pub once : (front rest : List Line) (u v : ℕ) → xs ≡ front ++ (edge u v ∷ rest) → Joins front u v → ⊥
+  pub once : (front rest : List Line) (u v : ℕ) → xs ≡ front ++ (edge u v ∷ rest) → HasPair front u v → ⊥
 
 -- byte u × N + v is 1 where vertices u and v, which the text calls u + 1 and v + 1, are joined, else 0
 pub record Table (n : ℕ) (xs : List Line) (t : List ℕ) : Type 0 where
   pub size : length t ≡ n * n
-  pub joined : (u v : ℕ) → u < n → v < n → Joins xs (suc u) (suc v) → getD t (u * n + v) 0 ≡ 1
-  pub apart : (u v : ℕ) → u < n → v < n → (Joins xs (suc u) (suc v) → ⊥) → getD t (u * n + v) 0 ≡ 0
+  pub joined : (u v : ℕ) → u < n → v < n → HasPair xs (suc u) (suc v) → getD t (u * n + v) 0 ≡ 1
+  pub apart : (u v : ℕ) → u < n → v < n → (HasPair xs (suc u) (suc v) → ⊥) → getD t (u * n + v) 0 ≡ 0
 
 -- the text of a graph of n vertices and m edges with table t, which a slice of `room` bytes can hold; "M is the count of e lines"
 pub record EdgeText (room : ℕ) (text : List ℕ) (n m : ℕ) (t : List ℕ) : Type 0 where
@@ -150,7 +150,7 @@ lineFaults room xs l =
     ∷ numbered 40 ((n : ℕ) × (m : ℕ) × Spells l (problem n m) × (room < n * n))
     ∷ numbered 36 ((n : ℕ) × (u : ℕ) × (v : ℕ) × Spells l (edge u v) × Passed xs n × OutOfRange n u v)
     ∷ numbered 37 ((u : ℕ) × (v : ℕ) × Spells l (edge u v) × (u ≡ v))
-    ∷ numbered 38 ((u : ℕ) × (v : ℕ) × Spells l (edge u v) × Joins xs u v)
+    ∷ numbered 38 ((u : ℕ) × (v : ℕ) × Spells l (edge u v) × HasPair xs u v)
     ∷ []
 
 -- "At the end: 33 no p line, 39 M differs"

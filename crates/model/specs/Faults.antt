@@ -3,18 +3,17 @@
 -- Assumes nothing.
 use Prim.Native.Nat.{ℕ, _+_, _*_, _<_}
 use mathlib.Core.Path.{_≡_}
-use mathlib.Core.Bool.{false, _&&_}
+use mathlib.Core.Bool.{false}
 use mathlib.Core.Logic.{_≢_, _⊎_}
 use mathlib.Core.List.{List, [], _∷_, _++_}
 use lib.ListN.{length, getD, set}
 pub use Rattle.model.specs.Fault.{Fault}
 unfoldable pub use Rattle.model.specs.Fault.{numbered, FirstFault, NoFault}
-use Rattle.model.specs.Below.{count}
 use Rattle.model.specs.Graph.{Graph, byTable}
 use Rattle.model.specs.Groups.{Factor, Settings}
 use Rattle.model.specs.Meaning.{Under}
 use Rattle.model.specs.Walk.{Position}
-use Rattle.model.specs.Listing.{is, adjacent}
+use Rattle.model.specs.Listing.{adjacent, leftNeighbours}
 use Rattle.model.specs.Calls.{PageReply, QueryReply}
 
 -- "lowest number first": the numbers rise, from above m
@@ -56,10 +55,6 @@ pub record Apart (G : Graph) (p : Position) : Type 0 where
   pub other-taken : getD p other 0 ≡ 1
   pub different : one ≢ other
   pub not-adjacent : adjacent G one other ≡ false
-
--- how many neighbours of rank r are left
-unfoldable pub leftNeighbours : Graph → Position → ℕ → ℕ
-leftNeighbours G p r = count (G .size) (λ i. is 2 p i && adjacent G r i)
 
 -- something is taken, and at least c neighbours of the pivot, the lowest taken rank, are left
 pub record Lost (G : Graph) (c : Factor) (p : Position) : Type 0 where

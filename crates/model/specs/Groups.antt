@@ -21,6 +21,10 @@ pub record Settings : Type 0 where
   pub kind : ℕ
   pub factor : Factor
 
+-- the settings of a notion, a kind and a factor, as a call gives them
+abbrev pub settings : ℕ → ℕ → ℕ → Settings
+settings notion kind c = record { notion = notion; kind = kind; factor = c }
+
 -- x is less than c × k: the one comparison with the factor. Document 002, section 2.1: "less than", never "at most"
 abbrev pub within : Factor → ℕ → ℕ → Bool
 within c k x = ltb x (c * k)

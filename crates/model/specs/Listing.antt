@@ -26,14 +26,14 @@ pivot G p = least (G .size) (is 1 p)
 unfoldable pub apart : Graph → Position → Bool
 apart G p = any (G .size) (λ r. any (G .size) (λ s. ltb r s && is 1 p r && is 1 p s && not (adjacent G r s)))
 
--- how many neighbours of the pivot are left
-unfoldable pub lost : Graph → Position → ℕ
-lost G p = count (G .size) (λ r. is 2 p r && adjacent G (pivot G p) r)
+-- how many neighbours of rank r are left
+unfoldable pub leftNeighbours : Graph → Position → ℕ → ℕ
+leftNeighbours G p r = count (G .size) (λ i. is 2 p i && adjacent G r i)
 
 -- Document 01, "The walk": dead if two taken ranks are not adjacent, or if something is taken and at least c neighbours of the pivot are
 -- left. It doesn't depend on notion or kind
 unfoldable pub dead : Graph → Factor → Position → Bool
-dead G c p = apart G p || (has 1 p && not (within c 1 (lost G p)))
+dead G c p = apart G p || (has 1 p && not (within c 1 (leftNeighbours G p (pivot G p))))
 
 -- the vertices whose ranks are taken
 unfoldable pub takenSet : Graph → Position → VertexSet

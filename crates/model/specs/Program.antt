@@ -36,12 +36,12 @@ three (some a) (some b) (some c) =
     bounded (refuseSettings s 0) s
 
 -- notion, kind and c: 32 their count and the form of a number, then 6, 7, 8
-unfoldable pub settingsOf : List (List ℕ) → Words
-settingsOf [] = wrong 32
-settingsOf (a ∷ []) = wrong 32
-settingsOf (a ∷ b ∷ []) = wrong 32
-settingsOf (a ∷ b ∷ c ∷ []) = three (numberOf a) (numberOf b) (numberOf c)
-settingsOf (a ∷ b ∷ c ∷ d ∷ ds) = wrong 32
+unfoldable pub settingsOfWords : List (List ℕ) → Words
+settingsOfWords [] = wrong 32
+settingsOfWords (a ∷ []) = wrong 32
+settingsOfWords (a ∷ b ∷ []) = wrong 32
+settingsOfWords (a ∷ b ∷ c ∷ []) = three (numberOf a) (numberOf b) (numberOf c)
+settingsOfWords (a ∷ b ∷ c ∷ d ∷ ds) = wrong 32
 
 -- ---- printed bytes
 
@@ -123,7 +123,7 @@ byWords (chosen s) text =
 
 -- what the program does with these words and this text
 unfoldable pub programVerdict : List (List ℕ) → List ℕ → Verdict
-programVerdict words text = byWords (settingsOf words) text
+programVerdict words text = byWords (settingsOfWords words) text
 
 -- a refusal prints only its line; else each group of the full list is a line, and the last line has the number of groups and the walk's length
 unfoldable pub PrintsAt : Verdict → List ℕ → Type 0

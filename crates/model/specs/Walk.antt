@@ -60,7 +60,17 @@ unfoldable pub allDecided : ℕ → List Position
 allDecided zero = [] ∷ []
 allDecided (suc n) = map (1 ∷_) (allDecided n) ++ map (2 ∷_) (allDecided n)
 
--- what a page did: its stop (Finished 1, Spent 2, Full 3), groups, steps and entries wanted, the position reached and the entries written
+-- Document 01, "A page": stop Finished (1), Spent (2), Full (3)
+abbrev pub stoppedFinished : ℕ
+stoppedFinished = 1
+
+abbrev pub stoppedSpent : ℕ
+stoppedSpent = 2
+
+abbrev pub stoppedFull : ℕ
+stoppedFull = 3
+
+-- what a page did: its stop, groups, steps and entries wanted, the position reached and the entries written
 pub record Page : Type 0 where
   pub stop : ℕ
   pub groups : ℕ
@@ -139,11 +149,11 @@ module _ (R : Rules) where
 
   -- Document 01, "A page", points 1 to 5 in their order: a page from p with so many steps left of the budget and so many unused entries
   unfoldable pub page : ℕ → ℕ → Position → Page
-  page zero room p = cond (finished p) (halt 1 0 p) (halt 2 0 p)
+  page zero room p = cond (finished p) (halt stoppedFinished 0 p) (halt stoppedSpent 0 p)
   page (suc budget) room p =
       let es = due p in
-      let full = halt 3 (length es) p in
+      let full = halt stoppedFull (length es) p in
       let rest = page budget (room - length es) (step p) in
       let go = onward (bit (found p)) es rest in
       let unfinished = cond (ltb room (length es)) full go in
-      cond (finished p) (halt 1 0 p) unfinished
+      cond (finished p) (halt stoppedFinished 0 p) unfinished

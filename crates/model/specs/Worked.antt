@@ -7,15 +7,11 @@ use mathlib.Core.Bool.{true, false}
 use mathlib.Core.List.{List, [], _∷_, _++_}
 use lib.ListN.{replicate}
 use Rattle.model.specs.Graph.{Graph, byTable}
-use Rattle.model.specs.Groups.{Settings, isolatedClique}
+use Rattle.model.specs.Groups.{Settings, settings, isolatedClique}
 use Rattle.model.specs.Walk.{Position, fresh, lasts, fullList}
 use Rattle.model.specs.Listing.{rules}
 use Rattle.model.specs.Text.{readText}
 use Rattle.model.specs.Calls.{refuseSettings, refusePage, PageReply, pageCall, byBytes, QueryReply, query}
-
--- the settings of a notion, a kind and a factor
-abbrev pub settings : ℕ → ℕ → ℕ → Settings
-settings notion kind c = record { notion = notion; kind = kind; factor = c }
 
 -- the full list has these entries, and the walk this length
 abbrev pub Gives : Graph → Settings → List ℕ → ℕ → Type 0
@@ -100,8 +96,6 @@ askClaw set = query 4 clawTable (settings 2 0 2) set 32
 
 -- What K1 to K10 leave open, with any contents x of lent memory.
 pub record Pinned (x : ℕ) : Type 0 where
-  -- "steps made equal the budget": K9 stops Spent
-  pub budget : onClaw 7 (fresh 4) (x ∷ []) ≡ wroteNothing 2 7 0 (1 ∷ 2 ∷ 2 ∷ 2 ∷ []) (x ∷ [])
   -- "its size + 1 exceeds the unused entries": with an output of length 2, where K9 has 1, K9's group fits exactly
   pub room :
       onClaw 8 (fresh 4) (x ∷ x ∷ [])

@@ -45,9 +45,9 @@ twoOf (a ∷ b ∷ []) k = two (numberOf a) (numberOf b) k
 twoOf (a ∷ b ∷ f ∷ fs) k = bad 32
 
 -- what follows from two fields as they were read: 32 where they are no two numbers
-abbrev pub given : Pair → (ℕ → ℕ → Step) → Step
-given (Numbers a b) k = k a b
-given NoPair k = bad 32
+abbrev pub onPair : Pair → (ℕ → ℕ → Step) → Step
+onPair (Numbers a b) k = k a b
+onPair NoPair k = bad 32
 
 -- six digits at most in each
 abbrev pub SixDigitsEach : Pair → Type 0
@@ -56,5 +56,5 @@ SixDigitsEach NoPair = Unit {0}
 
 -- a part of a line is read as two numbers, as the definition says
 pub record PairRead (part : List ℕ) (r : Pair) : Type 0 where
-  pub goes : (k : ℕ → ℕ → Step) → given r k ≡ twoOf (fieldsOf part) k
+  pub goes : (k : ℕ → ℕ → Step) → onPair r k ≡ twoOf (fieldsOf part) k
   pub small : SixDigitsEach r

@@ -17,17 +17,16 @@ use Rattle.model.specs.Calls.{over, gap, refuseTable, refuseSettings, refuseLen
 use Rattle.theory.proofs.basics.Tests.{passes-or-fails}
 use Rattle.theory.proofs.calls.PageAccepted.{refuse-pass}
 use Rattle.graph.specs.Table.{TableFits}
-use Rattle.graph.specs.Work.{WorkFits, Prepared}
+use Rattle.graph.specs.Ranks.{RanksFit, Prepared, HoldsRanks}
 use Rattle.graph.proofs.Refusals.{table-accepted}
 use Rattle.isolation.specs.declared.Settings as query
 use Rattle.isolation.specs.Numbers.{settingsOf}
 use Rattle.page.specs.declared.PageAnswer.{PageAnswer}
 use Rattle.walk.specs.declared.State.{State}
-use Rattle.page.specs.Answer.{Replies, refused}
+use Rattle.page.specs.Answer.{PageReplies, refused}
 use Rattle.page.specs.Call.{PageCalled}
-use Rattle.position.specs.Position as position
-use Rattle.walk.specs.State.{Ranked, Stands}
-use Rattle.page.specs.Round.{Begins}
+use Rattle.walk.specs.State.{Stands}
+use Rattle.page.specs.Round.{PageBegins}
 use Rattle.page.proofs.Refusing.{Gate, table-gate, settings-gate, inputs}
 use Rattle.page.proofs.Turns.{replies-accepted, replies-refused}
 
@@ -77,21 +76,15 @@ position-passes n t s p e = let a = refuse-pass 20 _ _ e in (a .0, refuse-pass 2
 -- ---- the ranks
 
 module _ {n : ℕ} {t : List ℕ} (f : TableFits n t) (before : List ℕ) (long : length before ≡ 2048) where
-  pub ranks-fit : WorkFits n before
+  pub ranks-fit : RanksFit n before
   ranks-fit = record { small = f .small; parts = let s = f .small in omega arith }
 
   module _ {after : List ℕ} (h : Prepared n t before after) where
-    pub ranked : Ranked n t after
+    pub ranked : HoldsRanks n t after
     ranked =
         let s = f .small in
         let l = h .length-kept in
         record { fits = f; room = omega arith; order = h .order; degrees = h .degrees }
-
-    pub ranked-order : position.Ranked n t after
-    ranked-order =
-        let s = f .small in
-        let l = h .length-kept in
-        record { table = f; whole = omega arith; order = h .order }
 
 -- ---- the ways of a call
 
@@ -104,14 +97,14 @@ module _ (n : ℕ) (t : List ℕ) (s : Settings) (budget : ℕ) (p : Position) (
 
   -- accepted: the reply is what the page did
   pub called-accepted : 0 ≡ refusePage n t s p (length w) → (a : PageAnswer) (p₁ : Position) (out₁ w₁ : List ℕ)
-      → Replies a p₁ out₁ (replyOf 0 (page (rules (byTable n t) s) budget (length out) p) p out) → length w₁ ≡ length w → PageCalled n t s budget p out w a p₁ out₁ w₁
+      → PageReplies a p₁ out₁ (replyOf 0 (page (rules (byTable n t) s) budget (length out) p) p out) → length w₁ ≡ length w → PageCalled n t s budget p out w a p₁ out₁ w₁
   unfolding replyOf
   called-accepted e a p₁ out₁ w₁ r l =
       record { replies = replies-accepted n t s budget p out (length w) (sym e) a p₁ out₁ r; work-length = l; work-kept = λ d. absurd (d (r .refusal)) }
 
 -- where the rounds begin
-pub begins : (n : ℕ) (t ranks : List ℕ) (p : Position) (w : List ℕ) (q : query.Settings) (s : State) (work : ℕ) → Passed n t (settingsOf q) p work → Ranked n t ranks
-    → ((x : Settings) → x .factor ≡ q .factor → 0 ≡ refusePosition (rules (byTable n t) x) p) → Stands (byTable n t) p w s → Begins n t ranks p w q s
+pub begins : (n : ℕ) (t ranks : List ℕ) (p : Position) (w : List ℕ) (q : query.Settings) (s : State) (work : ℕ) → Passed n t (settingsOf q) p work → HoldsRanks n t ranks
+    → ((x : Settings) → x .factor ≡ q .factor → 0 ≡ refusePosition (rules (byTable n t) x) p) → Stands (byTable n t) p w s → PageBegins n t ranks p w q s
 begins n t ranks p w q s work h r f st =
     record {
       walking = record { accepted = h .table; ranked = r; stands = st; passes = sym (f (record { notion = 0; kind = 0; factor = q .factor }) refl) };

@@ -11,7 +11,7 @@ use Rattle.model.specs.Graph.{byTable}
 use Rattle.model.specs.Walk.{Position, Rules, finished, step, found, due, page}
 use Rattle.model.specs.Listing.{rules}
 use Rattle.model.specs.Calls.{replyOf}
-use Rattle.graph.proofs.Work.{table-size}
+use Rattle.graph.proofs.Ranks.{table-size}
 use Rattle.isolation.specs.declared.Settings.{Settings}
 use Rattle.isolation.specs.Numbers.{settingsOf}
 use Rattle.walk.specs.declared.State.{State}
@@ -21,10 +21,10 @@ use Rattle.emit.specs.Qualify.{Asks}
 use Rattle.emit.specs.Emit.{PutAt, Emitted}
 use Rattle.walk.specs.Walk.{rulesAt, Passes, SaysFinished, Walking, Stepped}
 use Rattle.page.specs.Turn.{Turn}
-use Rattle.page.specs.Round.{Begins}
+use Rattle.page.specs.Round.{PageBegins}
 use Rattle.page.specs.declared.Stop.{Stop}
 use Rattle.page.specs.declared.Stop.the-variants.{Finished, Spent, Full}
-use Rattle.page.specs.Answer.{stopNumber, Replies, accepted}
+use Rattle.page.specs.Answer.{stopNumber, PageReplies, accepted}
 use Rattle.page.proofs.Turns.{turn-start, turn-length, turn-step, turn-finished, turn-spent, turn-full}
 
 -- the rules of a call
@@ -45,7 +45,7 @@ step-same : (n : ℕ) (t : List ℕ) (q : Settings) (p : Position) → step (rul
 unfolding step
 step-same n t q p = refl
 
-module _ {n : ℕ} {t ranks : List ℕ} {q : Settings} {p₀ : Position} {w₀ : List ℕ} {first : State} (start : Begins n t ranks p₀ w₀ q first) (budget : ℕ) (out₀ : List ℕ) where
+module _ {n : ℕ} {t ranks : List ℕ} {q : Settings} {p₀ : Position} {w₀ : List ℕ} {first : State} (start : PageBegins n t ranks p₀ w₀ q first) (budget : ℕ) (out₀ : List ℕ) where
   pub running-start : Running n t ranks q budget p₀ out₀ w₀ p₀ out₀ w₀ first 0 0 0 0
   running-start =
       record { turn = turn-start (callRules n t q) budget p₀ out₀; walking = start .walking; none-wanted = refl; work-long = refl; position-long = refl }
@@ -132,7 +132,7 @@ module _ {n : ℕ} {t ranks : List ℕ} {q : Settings} {p₀ : Position} {w₀ :
 
         -- point 3
         pub reply-full : put .full ≡ true → (x : Stop) (stop : ℕ) → stop ≡ stopNumber x → x ≡ Full → (o : List ℕ) → o ≡ out₁ → (k : ℕ) → k ≡ put .wanted
-            → Replies (accepted stop groups steps used k) p o (replyOf 0 (page (callRules n t q) budget (length out₀) p₀) p₀ out₀)
+            → PageReplies (accepted stop groups steps used k) p o (replyOf 0 (page (callRules n t q) budget (length out₀) p₀) p₀ out₀)
         reply-full full x stop a e o b k c =
             let f = at .full full in
             let l = output-long in
@@ -141,9 +141,9 @@ module _ {n : ℕ} {t ranks : List ℕ} {q : Settings} {p₀ : Position} {w₀ :
 
     -- points 1 and 2
     pub reply-finished : finished p ≡ true → (x : Stop) (stop : ℕ) → stop ≡ stopNumber x → x ≡ Finished → (o : List ℕ) → o ≡ out → (k : ℕ) → k ≡ wanted
-        → Replies (accepted stop groups steps used k) p o (replyOf 0 (page (callRules n t q) budget (length out₀) p₀) p₀ out₀)
+        → PageReplies (accepted stop groups steps used k) p o (replyOf 0 (page (callRules n t q) budget (length out₀) p₀) p₀ out₀)
     reply-finished f x stop a e o b k c = turn-finished (r .turn) x stop a k o b e (c ∙ r .none-wanted) f
 
     pub reply-spent : finished p ≡ false → steps ≡ budget → (x : Stop) (stop : ℕ) → stop ≡ stopNumber x → x ≡ Spent → (o : List ℕ) → o ≡ out → (k : ℕ) → k ≡ wanted
-        → Replies (accepted stop groups steps used k) p o (replyOf 0 (page (callRules n t q) budget (length out₀) p₀) p₀ out₀)
+        → PageReplies (accepted stop groups steps used k) p o (replyOf 0 (page (callRules n t q) budget (length out₀) p₀) p₀ out₀)
     reply-spent f g x stop a e o b k c = turn-spent (r .turn) x stop a k o b e (c ∙ r .none-wanted) f g

@@ -20,7 +20,7 @@ use Rattle.theory.proofs.walk.Rounds.{page-finished, page-spent, page-full, pag
 use Rattle.page.specs.declared.PageAnswer.{PageAnswer}
 use Rattle.page.specs.declared.Stop.{Stop}
 use Rattle.page.specs.declared.Stop.the-variants.{Finished, Spent, Full}
-use Rattle.page.specs.Answer.{stopNumber, Replies, accepted, refused}
+use Rattle.page.specs.Answer.{stopNumber, PageReplies, accepted, refused}
 use Rattle.page.specs.Turn.{sofar, Turn}
 
 -- ---- what was done so far
@@ -139,7 +139,7 @@ module _ {R : Rules} {budget : ℕ} {first : Position} {lent : List ℕ} {k g u 
   -- ---- the breaks
 
   ended : (stop wanted : ℕ) → page R (budget - k) (length lent - u) p ≡ halt stop wanted p
-      → Replies (accepted stop g k u wanted) p output (replyOf 0 (page R budget (length lent) first) first lent)
+      → PageReplies (accepted stop g k u wanted) p output (replyOf 0 (page R budget (length lent) first) first lent)
   unfolding replyOf
   ended stop wanted e =
       record {
@@ -162,7 +162,7 @@ module _ {R : Rules} {budget : ℕ} {first : Position} {lent : List ℕ} {k g u 
   -- Where the ways out of the loop meet: the stop s that it yielded, its number, the entries wanted and the output are known by equations only.
   module _ (s : Stop) (stop : ℕ) (number : stop ≡ stopNumber s) (wanted : ℕ) (last : List ℕ) (same : last ≡ output) where
     met : (r w : ℕ) → stopNumber s ≡ r → wanted ≡ w → page R (budget - k) (length lent - u) p ≡ halt r w p
-        → Replies (accepted stop g k u wanted) p last (replyOf 0 (page R budget (length lent) first) first lent)
+        → PageReplies (accepted stop g k u wanted) p last (replyOf 0 (page R budget (length lent) first) first lent)
     met r w e f h =
         let a = ended r w h in
         record {
@@ -178,19 +178,19 @@ module _ {R : Rules} {budget : ℕ} {first : Position} {lent : List ℕ} {k g u 
 
     -- point 1: the position is finished
     pub turn-finished : s ≡ Finished → wanted ≡ 0 → finished p ≡ true
-        → Replies (accepted stop g k u wanted) p last (replyOf 0 (page R budget (length lent) first) first lent)
+        → PageReplies (accepted stop g k u wanted) p last (replyOf 0 (page R budget (length lent) first) first lent)
     turn-finished e f h = met 1 0 (ap stopNumber e) f (page-finished R p (budget - k) (length lent - u) h)
 
     -- point 2: the steps made equal the budget
     pub turn-spent : s ≡ Spent → wanted ≡ 0 → finished p ≡ false → k ≡ budget
-        → Replies (accepted stop g k u wanted) p last (replyOf 0 (page R budget (length lent) first) first lent)
+        → PageReplies (accepted stop g k u wanted) p last (replyOf 0 (page R budget (length lent) first) first lent)
     turn-spent e f walking h =
         let n : budget - k ≡ 0 = omega arith in
         met 2 0 (ap stopNumber e) f (ap (λ (b : ℕ). page R b (length lent - u) p) n ∙ page-spent R p walking (length lent - u))
 
     -- point 3: what is due exceeds the unused entries
     pub turn-full : s ≡ Full → wanted ≡ length (due R p) → finished p ≡ false → k < budget → length lent < u + length (due R p)
-        → Replies (accepted stop g k u wanted) p last (replyOf 0 (page R budget (length lent) first) first lent)
+        → PageReplies (accepted stop g k u wanted) p last (replyOf 0 (page R budget (length lent) first) first lent)
     turn-full e f walking more full =
         let n : budget - k ≡ suc (budget - (k + 1)) = omega arith in
         let h = t .used-fits in
@@ -202,16 +202,16 @@ module _ {R : Rules} {budget : ℕ} {first : Position} {lent : List ℕ} {k g u 
 module _ (n : ℕ) (t : List ℕ) (s : Settings) (budget : ℕ) (p : Position) (out : List ℕ) (work : ℕ) where
   -- accepted: the reply is what the page did
   pub replies-accepted : refusePage n t s p work ≡ 0 → (a : PageAnswer) (q : Position) (o : List ℕ)
-      → Replies a q o (replyOf 0 (page (rules (byTable n t) s) budget (length out) p) p out) → Replies a q o (pageCall n t s budget p out work)
+      → PageReplies a q o (replyOf 0 (page (rules (byTable n t) s) budget (length out) p) p out) → PageReplies a q o (pageCall n t s budget p out work)
   unfolding pageCall
   replies-accepted e a q o r = rw e r
 
   -- refused: the reply is the number, and all is left as it was
-  pub replies-refused : (number : ℕ) → number ≡ refusePage n t s p work → number ≢ 0 → Replies (refused number) p out (pageCall n t s budget p out work)
+  pub replies-refused : (number : ℕ) → number ≡ refusePage n t s p work → number ≢ 0 → PageReplies (refused number) p out (pageCall n t s budget p out work)
   unfolding pageCall replyOf
   replies-refused number e d = go (refusePage n t s p work) e
     where
-      go : (k : ℕ) → number ≡ k → Replies (refused number) p out (replyOf k (page (rules (byTable n t) s) budget (length out) p) p out)
+      go : (k : ℕ) → number ≡ k → PageReplies (refused number) p out (replyOf k (page (rules (byTable n t) s) budget (length out) p) p out)
       go zero q = absurd (d q)
       go (suc k) q =
           record { refusal = q; stop = refl; groups = refl; steps = refl; used = refl; wanted = refl; position = refl; output = refl }

@@ -3,7 +3,7 @@
 use Prim.Native.Nat.{ℕ}
 use mathlib.Core.Path.{_≡_}
 use mathlib.Core.List.{List}
-use Rattle.model.specs.Walk.{Position}
+use Rattle.model.specs.Walk.{Position, stoppedFinished, stoppedSpent, stoppedFull}
 use Rattle.model.specs.Calls.{PageReply}
 use Rattle.page.specs.declared.PageAnswer.{PageAnswer}
 use Rattle.page.specs.declared.Stop.{Stop}
@@ -11,12 +11,12 @@ use Rattle.page.specs.declared.Stop.the-variants.{Finished, Spent, Full}
 
 -- Document 01, "A page": stop Finished (1), Spent (2), Full (3)
 abbrev pub stopNumber : Stop → ℕ
-stopNumber Finished = 1
-stopNumber Spent = 2
-stopNumber Full = 3
+stopNumber Finished = stoppedFinished
+stopNumber Spent = stoppedSpent
+stopNumber Full = stoppedFull
 
 -- the answer a, with the position and the output as the call leaves them, is the reply r
-pub record Replies (a : PageAnswer) (p : Position) (out : List ℕ) (r : PageReply) : Type 0 where
+pub record PageReplies (a : PageAnswer) (p : Position) (out : List ℕ) (r : PageReply) : Type 0 where
   pub refusal : a .refusal ≡ r .refused
   pub stop : a .stop ≡ r .stop
   pub groups : a .groups ≡ r .groups

@@ -9,15 +9,11 @@ use Rattle.model.specs.Groups.{Settings}
 use Rattle.model.specs.Walk.{Position}
 use Rattle.model.specs.Calls.{pageCall}
 use Rattle.page.specs.declared.PageAnswer.{PageAnswer}
-use Rattle.page.specs.Answer.{Replies}
-
--- the settings that a call gives as three numbers
-abbrev pub given : ℕ → ℕ → ℕ → Settings
-given notion kind c = record { notion = notion; kind = kind; factor = c }
+use Rattle.page.specs.Answer.{PageReplies}
 
 -- A call with the table t, n, the settings s and a budget was handed the position p, the output out and the work slice w; it answered a and left them as
 -- p₁, out₁ and w₁. Document 01, "A page": after acceptance the contents of the work slice are free, the only free thing; its length stays.
 pub record PageCalled (n : ℕ) (t : List ℕ) (s : Settings) (budget : ℕ) (p : Position) (out w : List ℕ) (a : PageAnswer) (p₁ : Position) (out₁ w₁ : List ℕ) : Type 0 where
-  pub replies : Replies a p₁ out₁ (pageCall n t s budget p out (length w))
+  pub replies : PageReplies a p₁ out₁ (pageCall n t s budget p out (length w))
   pub work-length : length w₁ ≡ length w
   pub work-kept : a .refusal ≢ 0 → w₁ ≡ w

@@ -8,6 +8,6 @@ use Rattle.walk.specs.declared.State.{State}
 use Rattle.walk.specs.Walk.{Walking}
 
 -- the state and the work slice stand for a position that passes every test, at a factor that is not refused
-pub record Begins (n : ℕ) (t ranks : List ℕ) (p : Position) (w : List ℕ) (q : Settings) (s : State) : Type 0 where
+pub record PageBegins (n : ℕ) (t ranks : List ℕ) (p : Position) (w : List ℕ) (q : Settings) (s : State) : Type 0 where
   pub walking : Walking n (q .factor) t ranks p w s
   pub factor : q .factor ≤ 1024

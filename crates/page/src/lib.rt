@@ -4,16 +4,17 @@ mod rounds;
 ghost use mathlib.Core.Path.{_≡_};
 ghost use lib.ListN.{length};
 ghost use Rattle.model.specs.Calls.{refuseTable, refuseSettings, refuseLengths};
+ghost use Rattle.model.specs.Groups.{settings};
 ghost use Rattle.isolation.specs.Numbers.{settingsOf};
 ghost use Rattle.page.specs.Answer.{stopNumber, refused};
-ghost use Rattle.page.specs.Call.{given, PageCalled};
-use position::position_refusal;
+ghost use Rattle.page.specs.Call.{PageCalled};
 use crate::rounds::run;
-use walk::rebuild;
 use graph::prepare;
 use graph::table_refusal;
 use isolation::Settings;
 use isolation::settings_refusal;
+use position::position_refusal;
+use walk::rebuild;
 
 // Why a page stopped.
 pub enum Stop {
@@ -95,7 +96,7 @@ pub fn page(
     budget: u32,
 ) -> PageAnswer
     ensures { λ r. ⌜
-        PageCalled n (now (table .entry)) (given notion kind c) budget (now (position .entry)) (now (output .entry)) (now (work .entry))
+        PageCalled n (now (table .entry)) (settings notion kind c) budget (now (position .entry)) (now (output .entry)) (now (work .entry))
         r (now (position .exit)) (now (output .exit)) (now (work .exit))
         ⌝ }
 {

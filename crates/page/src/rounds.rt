@@ -5,16 +5,16 @@ ghost use Rattle.model.specs.Walk.{page};
 ghost use Rattle.model.specs.Listing.{rules};
 ghost use Rattle.model.specs.Calls.{replyOf};
 ghost use Rattle.isolation.specs.Numbers.{settingsOf};
-ghost use Rattle.page.specs.Answer.{Replies};
-ghost use Rattle.page.specs.Round.{Begins};
+ghost use Rattle.page.specs.Answer.{PageReplies};
+ghost use Rattle.page.specs.Round.{PageBegins};
 use crate::PageAnswer;
-use walk::State;
 use crate::Stop;
-use emit::emit;
 use crate::stop_number;
+use emit::emit;
+use isolation::Settings;
+use walk::State;
 use walk::finished;
 use walk::step;
-use isolation::Settings;
 
 // A page from the position that the state and the work slice stand for, accepted by all tests: one step a round, in this order, until a round stops.
 pub fn run(
@@ -28,9 +28,9 @@ pub fn run(
     first: State,
     budget: u32,
 ) -> PageAnswer
-    requires { ⌜ Begins n (now table) (now ranks) (now position) (now work) q first ⌝ }
+    requires { ⌜ PageBegins n (now table) (now ranks) (now position) (now work) q first ⌝ }
     ensures { λ r. ⌜
-        Replies r (now (position .exit)) (now (output .exit))
+        PageReplies r (now (position .exit)) (now (output .exit))
         (replyOf 0 (page (rules (byTable n (now (table .entry))) (settingsOf q)) budget (length (now (output .entry))) (now (position .entry)))
         (now (position .entry)) (now (output .entry)))
         ⌝ }

@@ -17,12 +17,13 @@ use Rattle.theory.proofs.basics.Tests.{Test, test-and, test-self, test-fails, t
 use Rattle.theory.proofs.graph.Ranks.{vertex-at}
 use Rattle.theory.proofs.walk.Lawful.{apart-test}
 use Rattle.theory.proofs.calls.DeadPosition.{in-length}
-use Rattle.graph.proofs.Work.{table-size}
-use Rattle.position.specs.Position.{Ranked, stranger, apartAt}
+use Rattle.graph.proofs.Ranks.{table-size}
+use Rattle.graph.specs.Ranks.{HoldsRanks}
+use Rattle.position.specs.Position.{stranger, apartAt}
 
 -- ---- adjacency through the rank order
 
-module _ (n : ℕ) (t ranks : List ℕ) (k : Ranked n t ranks) where
+module _ (n : ℕ) (t ranks : List ℕ) (k : HoldsRanks n t ranks) where
   -- the entry at a rank is a vertex
   pub entry-below : (a : ℕ) → a < n → getD ranks a 0 < n
   entry-below a h =

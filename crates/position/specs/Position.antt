@@ -9,13 +9,7 @@ use Rattle.model.specs.Graph.{Graph, byTable}
 use Rattle.model.specs.Walk.{Position}
 use Rattle.model.specs.Listing.{is, adjacent}
 use Rattle.graph.specs.Table.{TableFits}
-use Rattle.graph.specs.Work.{HoldsOrder}
-
--- the slice `ranks` starts with the rank order of the graph that the table t holds
-pub record Ranked (n : ℕ) (t ranks : List ℕ) : Type 0 where
-  pub table : TableFits n t
-  pub whole : n ≤ length ranks
-  pub order : HoldsOrder n (byTable n t) ranks
+use Rattle.graph.specs.Ranks.{HoldsOrder}
 
 -- rank i is taken and not adjacent to rank s
 abbrev pub stranger : Graph → Position → ℕ → ℕ → Bool
@@ -28,7 +22,3 @@ apartAt G p s = is 1 p s && any s (stranger G p s)
 -- rank i is left and adjacent to rank r
 abbrev pub leftNeighbour : Graph → Position → ℕ → ℕ → Bool
 leftNeighbour G p r i = is 2 p i && adjacent G r i
-
--- how many ranks of the position are left and adjacent to rank r
-abbrev pub leftOf : Graph → Position → ℕ → ℕ
-leftOf G p r = count (length p) (leftNeighbour G p r)

@@ -5,9 +5,10 @@ ghost use lib.ListN.{length};
 ghost use Rattle.model.specs.Below.{least};
 ghost use Rattle.model.specs.Graph.{byTable};
 ghost use Rattle.model.specs.Groups.{Settings};
-ghost use Rattle.model.specs.Listing.{is, adjacent, apart, dead, rules};
+ghost use Rattle.model.specs.Listing.{is, adjacent, apart, leftNeighbours, dead, rules};
 ghost use Rattle.model.specs.Calls.{gap, refusePosition};
-ghost use Rattle.position.specs.Position.{Ranked, stranger, apartAt, leftNeighbour, leftOf};
+ghost use Rattle.graph.specs.Ranks.{HoldsRanks};
+ghost use Rattle.position.specs.Position.{stranger, apartAt, leftNeighbour};
 
 // The lowest rank whose byte is x, and the position's length where there is none. Reads the position up to it.
 fn lowest(x: u8, position: &[u8]) -> usize
@@ -53,7 +54,7 @@ fn wide(x: u16) -> usize
 
 // Whether the vertices at ranks a and b are joined, of the graph on n vertices that the table holds and whose rank order `ranks` holds.
 fn adjacent_at(table: &[u8], ranks: &[u16], n: usize, a: usize, b: usize) -> bool
-    requires { ⌜ Ranked n (now table) (now ranks) × (a < n) × (b < n) ⌝ }
+    requires { ⌜ HoldsRanks n (now table) (now ranks) × (a < n) × (b < n) ⌝ }
     ensures { λ r. ⌜ r ≡ adjacent (byTable n (now (table .entry))) a b ⌝ }
 {
     let u = wide(ranks[a]);
@@ -63,7 +64,7 @@ fn adjacent_at(table: &[u8], ranks: &[u16], n: usize, a: usize, b: usize) -> boo
 
 // Whether rank i of a position is taken and not adjacent to rank s.
 fn is_stranger(table: &[u8], ranks: &[u16], n: usize, position: &[u8], s: usize, i: usize) -> bool
-    requires { ⌜ Ranked n (now table) (now ranks) × (length (now position) ≤ n) × (s < n) × (i < length (now position)) ⌝ }
+    requires { ⌜ HoldsRanks n (now table) (now ranks) × (length (now position) ≤ n) × (s < n) × (i < length (now position)) ⌝ }
     ensures { λ r. ⌜ r ≡ stranger (byTable n (now (table .entry))) (now (position .entry)) s i ⌝ }
 {
     if position[i] != 1 {
@@ -74,7 +75,7 @@ fn is_stranger(table: &[u8], ranks: &[u16], n: usize, position: &[u8], s: usize,
 
 // Whether rank s of a position is taken and some taken rank below it is not adjacent to it. Reads the position up to s.
 fn is_apart_at(table: &[u8], ranks: &[u16], n: usize, position: &[u8], s: usize) -> bool
-    requires { ⌜ Ranked n (now table) (now ranks) × (length (now position) ≤ n) × (s < length (now position)) ⌝ }
+    requires { ⌜ HoldsRanks n (now table) (now ranks) × (length (now position) ≤ n) × (s < length (now position)) ⌝ }
     ensures { λ r. ⌜ r ≡ apartAt (byTable n (now (table .entry))) (now (position .entry)) s ⌝ }
 {
     if position[s] != 1 {
@@ -92,7 +93,7 @@ fn is_apart_at(table: &[u8], ranks: &[u16], n: usize, position: &[u8], s: usize)
 
 // Whether two taken ranks of a position are not adjacent; ranks past its end are open. Reads the position.
 fn is_apart(table: &[u8], ranks: &[u16], n: usize, position: &[u8]) -> bool
-    requires { ⌜ Ranked n (now table) (now ranks) × (length (now position) ≤ n) ⌝ }
+    requires { ⌜ HoldsRanks n (now table) (now ranks) × (length (now position) ≤ n) ⌝ }
     ensures { λ r. ⌜ r ≡ apart (byTable n (now (table .entry))) (now (position .entry)) ⌝ }
 {
     let mut s = 0;
@@ -114,7 +115,7 @@ fn is_left_neighbour(
     pivot: usize,
     i: usize,
 ) -> bool
-    requires { ⌜ Ranked n (now table) (now ranks) × (length (now position) ≤ n) × (pivot < n) × (i < length (now position)) ⌝ }
+    requires { ⌜ HoldsRanks n (now table) (now ranks) × (length (now position) ≤ n) × (pivot < n) × (i < length (now position)) ⌝ }
     ensures { λ r. ⌜ r ≡ leftNeighbour (byTable n (now (table .entry))) (now (position .entry)) pivot i ⌝ }
 {
     if position[i] != 2 {
@@ -125,8 +126,8 @@ fn is_left_neighbour(
 
 // How many left ranks of a position are adjacent to the rank `pivot`. Reads the position.
 fn left_of_pivot(table: &[u8], ranks: &[u16], n: usize, position: &[u8], pivot: usize) -> usize
-    requires { ⌜ Ranked n (now table) (now ranks) × (length (now position) ≤ n) × (pivot < n) ⌝ }
-    ensures { λ r. ⌜ r ≡ leftOf (byTable n (now (table .entry))) (now (position .entry)) pivot ⌝ }
+    requires { ⌜ HoldsRanks n (now table) (now ranks) × (length (now position) ≤ n) × (pivot < n) ⌝ }
+    ensures { λ r. ⌜ r ≡ leftNeighbours (byTable n (now (table .entry))) (now (position .entry)) pivot ⌝ }
 {
     let mut sum: usize = 0;
     let mut i = 0;
@@ -141,7 +142,7 @@ fn left_of_pivot(table: &[u8], ranks: &[u16], n: usize, position: &[u8], pivot: 
 
 // Whether a position is dead; ranks past its end are open. Reads the position.
 fn is_dead(table: &[u8], ranks: &[u16], n: usize, c: u32, position: &[u8]) -> bool
-    requires { ⌜ Ranked n (now table) (now ranks) × (length (now position) ≤ n) ⌝ }
+    requires { ⌜ HoldsRanks n (now table) (now ranks) × (length (now position) ≤ n) ⌝ }
     ensures { λ r. ⌜ r ≡ dead (byTable n (now (table .entry))) c (now (position .entry)) ⌝ }
 {
     if is_apart(table, ranks, n, position) {
@@ -157,7 +158,7 @@ fn is_dead(table: &[u8], ranks: &[u16], n: usize, c: u32, position: &[u8]) -> bo
 // The refusal number of a position of n ranks, whatever its bytes: 21, 22 or 23, and 0 where all three tests pass. The number of decided ranks is
 // read off the position; what is tested for 23 is the part before the last of them. Reads the position.
 pub fn position_refusal(table: &[u8], ranks: &[u16], n: usize, c: u32, position: &[u8]) -> u32
-    requires { ⌜ Ranked n (now table) (now ranks) × (length (now position) ≡ n) ⌝ }
+    requires { ⌜ HoldsRanks n (now table) (now ranks) × (length (now position) ≡ n) ⌝ }
     ensures { λ r. ⌜
         ((s : Settings) → s .factor ≡ c
         → r ≡ refusePosition (rules (byTable n (now (table .entry))) s) (now (position .entry)))

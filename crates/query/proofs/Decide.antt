@@ -22,15 +22,15 @@ use Rattle.theory.proofs.graph.Cliques.{common-test}
 use Rattle.theory.proofs.basics.Passing.{passing-listed, passing-has, passing-rises, passing-candidates}
 use Rattle.theory.proofs.search.Members.{common-list}
 use Rattle.theory.proofs.search.Maximal.{qualifies-tally}
-use Rattle.graph.specs.Work.{WorkFits}
-use Rattle.graph.proofs.Work.{table-size}
+use Rattle.graph.specs.Ranks.{RanksFit}
+use Rattle.graph.proofs.Ranks.{table-size}
 use Rattle.isolation.specs.declared.Settings.{Settings}
 use Rattle.isolation.specs.declared.Tally.{Tally}
 use Rattle.isolation.specs.Numbers.{settingsOf, isolatedOf, beatenOf, TallyOf}
-use Rattle.larger.specs.Parts.{part, HoldsVertices, Written}
+use Rattle.theory.specs.Parts.{part, HoldsVertices, Written}
 use Rattle.larger.specs.Search.{Lent, Posed, Tested}
 use Rattle.query.specs.Query.{pairwise, Tallies, Ready, Decided}
-use Rattle.larger.proofs.Parts.{part-length, part-at}
+use Rattle.theory.proofs.basics.Parts.{part-length, part-at}
 use Rattle.query.proofs.Members.{clique-test}
 use Rattle.isolation.proofs.Refusals.{QueryAccepted, query-accepted}
 
@@ -98,7 +98,7 @@ module _ {n : ℕ} {t ranks bs w₀ : List ℕ} {s : Settings} (ready : Ready n 
   symmetric : Symmetric graph
   symmetric u v h l = let z = table-size n t in accepted .table .both-ways u v (omega arith) (omega arith)
 
-  pub work-fits : WorkFits n w₀
+  pub work-fits : RanksFit n w₀
   work-fits = record { small = accepted .table .fits .small; parts = let r = accepted .room in omega arith }
 
   -- after the members were written

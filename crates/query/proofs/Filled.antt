@@ -8,8 +8,8 @@ use native.Mathlib.Omega.{arith}
 use lib.ListN.{length, set}
 use Rattle.model.specs.Below.{passing}
 use Rattle.theory.proofs.basics.Passing.{passing-none, passing-hit, passing-miss}
-use Rattle.larger.specs.Parts.{part, Kept, Written}
-use Rattle.larger.proofs.Parts.{part-push, kept-none, kept-set}
+use Rattle.theory.specs.Parts.{part, Kept, Written}
+use Rattle.theory.proofs.basics.Parts.{part-push, kept-none, kept-set}
 
 -- the k numbers below v that pass p stand from entry a on, and every entry outside a to a + n - 1 is as it was
 pub record Filled (a n : ℕ) (p : ℕ → Bool) (w₀ w : List ℕ) (v k : ℕ) : Type 0 where

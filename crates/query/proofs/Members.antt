@@ -17,12 +17,12 @@ use Rattle.theory.specs.Search.{Symmetric, joinedAll, among, Members}
 use Rattle.theory.proofs.basics.Tests.{Test, test-all, test-self, trichotomy, fails}
 use Rattle.theory.proofs.search.Candidates.{joined-test}
 use Rattle.theory.proofs.search.Members.{tally-none, tally-next, tally-all}
-use Rattle.graph.specs.Work.{HoldsDegrees}
+use Rattle.graph.specs.Ranks.{HoldsDegrees}
 use Rattle.isolation.specs.declared.Tally.{Tally}
 use Rattle.isolation.specs.Numbers.{withMember, TallyOf}
-use Rattle.larger.specs.Parts.{part}
+use Rattle.theory.specs.Parts.{part}
 use Rattle.query.specs.Query.{pairwise, Tallies}
-use Rattle.larger.proofs.Parts.{part-length, part-at}
+use Rattle.theory.proofs.basics.Parts.{part-length, part-at}
 
 -- the first entries of a part are a part
 pub take-part : (w : List ℕ) (a k i : ℕ) → i ≤ k → a + k ≤ length w → take i (part w a k) ≡ part w a i

@@ -8,11 +8,11 @@ use mathlib.Core.Logic.{_≢_}
 use lib.ListN.{length, getD, take}
 use Rattle.model.specs.Below.{bit, all}
 use Rattle.model.specs.Graph.{Graph, byTable}
-use Rattle.model.specs.Groups.{VertexSet, qualifies}
+use Rattle.model.specs.Groups.{settings, VertexSet, qualifies}
 use Rattle.model.specs.Groups as groups
 use Rattle.theory.specs.Search.{joinedAll, Members}
 use Rattle.model.specs.Calls.{byBytes, refuseQuery, query}
-use Rattle.graph.specs.Work.{WorkFits, HoldsDegrees}
+use Rattle.graph.specs.Ranks.{RanksFit, HoldsDegrees}
 use Rattle.isolation.specs.declared.Settings.{Settings}
 use Rattle.isolation.specs.declared.Tally.{Tally}
 use Rattle.query.specs.declared.SetAnswer.{SetAnswer}
@@ -29,7 +29,7 @@ Tallies n ranks us y = (G : Graph) → G .size ≡ n → HoldsDegrees n G ranks 
 -- the call is accepted, and the ranks hold the degrees
 pub record Ready (n : ℕ) (t ranks bs w : List ℕ) (s : Settings) : Type 0 where
   pub accepted : refuseQuery n t (settingsOf s) bs (length w) ≡ 0
-  pub ranks-fit : WorkFits n ranks
+  pub ranks-fit : RanksFit n ranks
   pub degrees : HoldsDegrees n (byTable n t) ranks
 
 -- whether the set qualifies, and the work slice as long as before
@@ -40,7 +40,7 @@ pub record Decided (n : ℕ) (t bs before after : List ℕ) (s : groups.Settings
 -- Document 01, "One set, one text, one program" and "Turned back by the input": the answer of `query` of crate model as two numbers; the work slice
 -- keeps its length, and where the call is refused all that it holds. Its contents after acceptance are left open, as document 01 leaves them
 pub record Answers (n : ℕ) (t bs before after : List ℕ) (notion kind c : ℕ) (r : SetAnswer) : Type 0 where
-  pub refused : r .refusal ≡ query n t (record { notion = notion; kind = kind; factor = c }) bs (length before) .refused
-  pub yes : r .yes ≡ bit (query n t (record { notion = notion; kind = kind; factor = c }) bs (length before) .yes)
+  pub refused : r .refusal ≡ query n t (settings notion kind c) bs (length before) .refused
+  pub yes : r .yes ≡ bit (query n t (settings notion kind c) bs (length before) .yes)
   pub length-kept : length after ≡ length before
   pub unchanged : r .refusal ≢ 0 → after ≡ before

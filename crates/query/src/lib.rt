@@ -7,9 +7,9 @@ ghost use Rattle.model.specs.Listing.{is};
 ghost use Rattle.theory.specs.Search.{joinedAll};
 ghost use Rattle.model.specs.Calls.{refuseQuery};
 ghost use Rattle.graph.specs.Table.{TableFits};
-ghost use Rattle.graph.specs.Work.{WorkFits};
+ghost use Rattle.graph.specs.Ranks.{RanksFit};
 ghost use Rattle.isolation.specs.Numbers.{settingsOf};
-ghost use Rattle.larger.specs.Parts.{part, HoldsVertices, Written};
+ghost use Rattle.theory.specs.Parts.{part, HoldsVertices, Written};
 ghost use Rattle.query.specs.Query.{pairwise, Tallies, Ready, Decided, Answers};
 use isolation::Settings;
 use isolation::Tally;
@@ -28,7 +28,7 @@ pub struct SetAnswer {
 
 // Writes the vertices of n whose byte in set is 1 into part 1 of work, lowest first, and nothing else of it, and gives how many they are. Reads set.
 fn members_of(set: &[u8], n: usize, work: &mut [u16]) -> usize
-    requires { ⌜ WorkFits n (now work) × (length (now set) ≡ n) ⌝ }
+    requires { ⌜ RanksFit n (now work) × (length (now set) ≡ n) ⌝ }
     ensures { λ k. ⌜ Written n n (is 1 (now (set .entry))) (now (work .entry)) (now (work .exit)) k ⌝ }
 {
     let mut k: usize = 0;
@@ -62,7 +62,7 @@ fn pairwise_joined(table: &[u8], n: usize, work: &[u16], k: usize) -> bool
 
 // The numbers of the set whose k members stand in part 1 of work, by the degrees in part 1 of ranks; n is the number of vertices. Reads both.
 fn tally_of(ranks: &[u16], n: usize, work: &[u16], k: usize) -> Tally
-    requires { ⌜ WorkFits n (now ranks) × (k ≤ n) × (2 * n ≤ length (now work)) × HoldsVertices n (now work) n k ⌝ }
+    requires { ⌜ RanksFit n (now ranks) × (k ≤ n) × (2 * n ≤ length (now work)) × HoldsVertices n (now work) n k ⌝ }
     ensures { λ y. ⌜ Tallies n (now (ranks .entry)) (part (now (work .entry)) n k) y ⌝ }
 {
     let mut y = Tally {

@@ -1,2 +1,3 @@
 -- How code computes what the definitions of crate model say.
+pub mod Parts
 pub mod Search

@@ -20,8 +20,8 @@ abbrev pub Symmetric : Graph → Type 0
 Symmetric G = (u v : ℕ) → u < G .size → v < G .size → G .joined u v ≡ G .joined v u
 
 -- v is joined to every member
-abbrev pub Joins : Graph → VertexSet → ℕ → Type 0
-Joins G S v = (u : ℕ) → In G S u → G .joined v u ≡ true
+abbrev pub JoinsAll : Graph → VertexSet → ℕ → Type 0
+JoinsAll G S v = (u : ℕ) → In G S u → G .joined v u ≡ true
 
 -- a common neighbour of the set: a vertex outside it that is joined to every member
 unfoldable pub common : Graph → VertexSet → ℕ → Bool
@@ -31,7 +31,7 @@ common G S v = not (S v) && all (G .size) (λ u. implies (S u) (G .joined v u))
 pub record Common (G : Graph) (S : VertexSet) (v : ℕ) : Type 0 where
   pub vertex : v < G .size
   pub beyond : S v ≡ false
-  pub joins : Joins G S v
+  pub joins : JoinsAll G S v
 
 -- f of the members below n joined by op, from a start
 unfoldable pub gather : (ℕ → ℕ → ℕ) → ℕ → ℕ → VertexSet → (ℕ → ℕ) → ℕ

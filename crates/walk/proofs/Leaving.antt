@@ -11,15 +11,16 @@ use Rattle.model.specs.Graph.{byTable, degree}
 use Rattle.model.specs.Walk.{Position, retreat}
 use Rattle.model.specs.Listing.{apart, takenList}
 use Rattle.model.specs.Calls.{reopened}
-use Rattle.graph.proofs.Work.{table-size}
-use Rattle.walk.specs.State.{degreesOf, Stands, Ranked}
-use Rattle.walk.specs.Walk.{Decides, Trimmed, Cleared}
+use Rattle.graph.proofs.Ranks.{table-size}
+use Rattle.graph.specs.Ranks.{HoldsRanks}
+use Rattle.walk.specs.State.{degreesOf, Stands}
+use Rattle.walk.specs.Walk.{Decides, Trimmed, RanksOpened}
 use Rattle.walk.specs.declared.State.{State}
 use Rattle.walk.proofs.Reading.{taken-low}
 use Rattle.walk.proofs.Standing.{push-other}
 use Rattle.walk.proofs.Opened.{opened, top-rank, top-vertex, popped-sum, popped-sum-none, opened-stands, retreat-decides, retreat-exit}
 
-module _ (n : ℕ) (t ranks : List ℕ) (R : Ranked n t ranks) (p : Position) (w : List ℕ) (s : State) (St : Stands (byTable n t) p w s) (some : 0 < s .taken)
+module _ (n : ℕ) (t ranks : List ℕ) (R : HoldsRanks n t ranks) (p : Position) (w : List ℕ) (s : State) (St : Stands (byTable n t) p w s) (some : 0 < s .taken)
     (r : ℕ) (r-is : r ≡ getD w (s .taken - 1) 0) where
   one-more : s .taken ≡ (s .taken - 1) + 1
   one-more = omega arith
@@ -43,7 +44,7 @@ module _ (n : ℕ) (t ranks : List ℕ) (R : Ranked n t ranks) (p : Position) (w
   pub left-decides : Decides r 2 (opened r p) (retreat p)
   left-decides = retreat-decides (byTable n t) p (St .long) r low (highest .1) (highest .2)
 
-  pub left-exit : (x : Position) → Cleared (r + 1) (s .decided) (set p r 2) x → x ≡ retreat p
+  pub left-exit : (x : Position) → RanksOpened (r + 1) (s .decided) (set p r 2) x → x ≡ retreat p
   left-exit x C = retreat-exit (byTable n t) p (St .long) r low (highest .1) (highest .2) (s .decided) (St .still-open) x C
 
   -- its vertex v and the degree e of it

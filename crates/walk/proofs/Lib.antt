@@ -6,5 +6,4 @@ pub mod Leaving
 pub mod Pushing
 pub mod Stepping
 pub mod Reading
-pub mod Parts
 pub mod Lists

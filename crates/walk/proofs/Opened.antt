@@ -22,10 +22,11 @@ use Rattle.theory.proofs.walk.Remaining.{open-zero, fresh-open, retreat-length}
 use Rattle.theory.proofs.basics.PassingParts.{passing-same, passing-below, passing-next, passing-count, passing-last, passing-cut, least-above}
 use Rattle.theory.proofs.walk.Moves.{retreat-is}
 use Rattle.graph.proofs.Refusals.{over-found}
-use Rattle.walk.specs.State.{part, takenRanks, leftRanks, degreesOf, Stands}
-use Rattle.walk.specs.Walk.{Decides, Trimmed, Cleared}
+use Rattle.theory.specs.Parts.{part}
+use Rattle.walk.specs.State.{takenRanks, leftRanks, degreesOf, Stands}
+use Rattle.walk.specs.Walk.{Decides, Trimmed, RanksOpened}
 use Rattle.walk.specs.declared.State.{State}
-use Rattle.walk.proofs.Parts.{part-length, part-take, part-pop}
+use Rattle.theory.proofs.basics.Parts.{part-length, part-take, part-pop}
 use Rattle.walk.proofs.Lists.{lt-or-ge, no-entries, map-append}
 use Rattle.walk.proofs.Decided.{Pair, apart-pairs, apart-none, degrees-none, degrees-more, taken-list, taken-length, taken-at, taken-has, left-none, pivot-first, pivot-is, pivot-lowest}
 use Rattle.walk.proofs.Standing.{taken-count, left-count, rank-entry, left-entry, rank-low, vertex-of-rank}
@@ -180,7 +181,7 @@ module _ (G : Graph) (p : Position) (long : length p ≡ G .size) (r : ℕ) (low
           ∙ open-zero (fresh (length p - suc r)) k (fresh-open (length p - suc r))
 
   -- what the stores into the position come to
-  pub retreat-exit : (d : ℕ) → ((i : ℕ) → d ≤ i → getD p i 0 ≡ 0) → (x : Position) → Cleared (r + 1) d (set p r 2) x → x ≡ retreat p
+  pub retreat-exit : (d : ℕ) → ((i : ℕ) → d ≤ i → getD p i 0 ≡ 0) → (x : Position) → RanksOpened (r + 1) d (set p r 2) x → x ≡ retreat p
   retreat-exit d clear x C = ext-getD 0 x (retreat p) (C .same-length ∙ length-set p r 2 ∙ sym (retreat-length p)) (λ i h. at i (trichotomy i r))
     where
       at : (i : ℕ) → (i < r) ⊎ (i ≡ r) ⊎ (r < i) → getD x i 0 ≡ getD (retreat p) i 0
@@ -378,10 +379,10 @@ bytes-most m p e r h = ⊎-elim (λ l. absurd (true≢false (sym (over-found m p
 
 -- ---- ranks opened one after the other
 
-pub cleared-none : (a : ℕ) (p : Position) → Cleared a a p p
+pub cleared-none : (a : ℕ) (p : Position) → RanksOpened a a p p
 cleared-none a p = record { same-length = refl; cleared = λ r x y. absurd (omega arith); below = λ r x. refl; above = λ r x. refl }
 
-pub cleared-more : (a i : ℕ) (p q : Position) → Cleared a i p q → a ≤ i → i < length q → Cleared a (i + 1) p (set q i 0)
+pub cleared-more : (a i : ℕ) (p q : Position) → RanksOpened a i p q → a ≤ i → i < length q → RanksOpened a (i + 1) p (set q i 0)
 cleared-more a i p q C h l =
     record {
       same-length = length-set q i 0 ∙ C .same-length;

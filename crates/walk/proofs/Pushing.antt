@@ -11,15 +11,17 @@ use Rattle.model.specs.Below.{any}
 use Rattle.model.specs.Graph.{byTable, degree, vertexAt}
 use Rattle.model.specs.Walk.{Position}
 use Rattle.model.specs.Listing.{adjacent, pivot}
-use Rattle.graph.proofs.Work.{table-size}
-use Rattle.walk.specs.State.{part, Stands, Ranked}
+use Rattle.graph.proofs.Ranks.{table-size}
+use Rattle.graph.specs.Ranks.{HoldsRanks}
+use Rattle.theory.specs.Parts.{part}
+use Rattle.walk.specs.State.{Stands}
 use Rattle.walk.specs.Walk.{Pushed, BelowIn}
 use Rattle.walk.specs.declared.State.{State}
-use Rattle.walk.proofs.Parts.{part-push, part-first, part-before, part-after}
+use Rattle.theory.proofs.basics.Parts.{part-push, part-first, part-before, part-after}
 use Rattle.walk.proofs.Reading.{order-low}
 use Rattle.walk.proofs.Standing.{pivot-entry, push-pivot, push-more, push-neighbour, push-other}
 
-module _ (n : ℕ) (t ranks : List ℕ) (R : Ranked n t ranks) (w : List ℕ) (s : State) (low : s .decided < n) (room : 8 * n ≤ length w) where
+module _ (n : ℕ) (t ranks : List ℕ) (R : HoldsRanks n t ranks) (w : List ℕ) (s : State) (low : s .decided < n) (room : 8 * n ≤ length w) where
   size : byTable n t .size ≡ n
   size = table-size n t
 

@@ -9,8 +9,9 @@ use Rattle.model.specs.Graph.{byTable, degree}
 use Rattle.model.specs.Walk.{Position}
 use Rattle.model.specs.Listing.{adjacent, takenList}
 use Rattle.theory.proofs.graph.Ranks.{vertex-at}
-use Rattle.graph.proofs.Work.{table-size, degree-le}
-use Rattle.walk.specs.State.{Stands, StandsForOne, Ranked}
+use Rattle.graph.proofs.Ranks.{table-size, degree-le}
+use Rattle.graph.specs.Ranks.{HoldsRanks}
+use Rattle.walk.specs.State.{Stands, StandsForOne}
 use Rattle.walk.specs.declared.State.{State}
 use Rattle.walk.proofs.Decided.{taken-length, degrees-bound}
 use Rattle.walk.proofs.Standing.{taken-count, vertex-low}
@@ -35,7 +36,7 @@ module _ (n : ℕ) (t w : List ℕ) (s : State) (one : StandsForOne (byTable n t
       let b = ap (λ (k : ℕ). getD w k 0) z in
       omega arith
 
-module _ (n : ℕ) (t ranks : List ℕ) (R : Ranked n t ranks) where
+module _ (n : ℕ) (t ranks : List ℕ) (R : HoldsRanks n t ranks) where
   -- entry r is a vertex
   pub order-low : (r : ℕ) → r < n → getD ranks r 0 < n
   order-low r h =

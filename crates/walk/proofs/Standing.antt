@@ -15,16 +15,17 @@ use Rattle.model.specs.Below.{any, passing}
 use Rattle.model.specs.Graph.{Graph, degree, vertexAt}
 use Rattle.model.specs.Groups.{Factor}
 use Rattle.model.specs.Walk.{Position, has, finished}
-use Rattle.model.specs.Listing.{is, adjacent, pivot, apart, lost, dead, takenList}
+use Rattle.model.specs.Listing.{is, adjacent, pivot, apart, leftNeighbours, dead, takenList}
 use Rattle.theory.proofs.basics.Tests.{last-or-below, trichotomy, fails, count-same}
 use Rattle.theory.proofs.graph.Ranks.{vertex-at}
 use Rattle.theory.proofs.walk.Lawful.{dead-test}
 use Rattle.theory.proofs.basics.PassingParts.{passing-count}
 use Rattle.theory.proofs.walk.Moves.{has-found, has-none, finished-is}
-use Rattle.walk.specs.State.{part, takenRanks, leftRanks, degreesOf, Stands}
+use Rattle.theory.specs.Parts.{part}
+use Rattle.walk.specs.State.{takenRanks, leftRanks, degreesOf, Stands}
 use Rattle.walk.specs.Walk.{Decides}
 use Rattle.walk.specs.declared.State.{State}
-use Rattle.walk.proofs.Parts.{part-length, part-at}
+use Rattle.theory.proofs.basics.Parts.{part-length, part-at}
 use Rattle.walk.proofs.Lists.{any-same, no-entries, map-at}
 use Rattle.walk.proofs.Decided.{degrees-none, degrees-more, taken-list, taken-length, taken-at, taken-has, untaken-has, untaken-at, pivot-first, ranks-taken, vertices-taken, ranks-left, vertices-left, left-kept, left-more, left-same, left-none, left-still-none, left-first, apart-none, apart-taken, apart-left}
 
@@ -113,8 +114,8 @@ module _ (G : Graph) (p : Position) (w : List ℕ) (s : State) (St : Stands G p 
       (trichotomy (s .taken) 0)
 
   -- the left neighbours of the pivot are counted
-  pub lost-is : 0 < s .taken → lost G p ≡ s .left
-  unfolding lost leftRanks
+  pub lost-is : 0 < s .taken → leftNeighbours G p (pivot G p) ≡ s .left
+  unfolding leftNeighbours leftRanks
   lost-is h =
       count-same (G .size) (λ r. is 2 p r && adjacent G (pivot G p) r) (λ r. has 1 p && is 2 p r && adjacent G (pivot G p) r) (λ r l. rw (has-taken h))
       ∙ sym (passing-count (G .size) (λ r. has 1 p && is 2 p r && adjacent G (pivot G p) r))
@@ -134,7 +135,7 @@ module _ (G : Graph) (p : Position) (w : List ℕ) (s : State) (St : Stands G p 
 
   -- Document 01, "The walk": at least c neighbours of the pivot are left
   pub dead-lost : (c : Factor) → 0 < s .taken → c ≤ s .left → dead G c p ≡ true
-  dead-lost c h l = let e = lost-is h in dead-test G p c .1 (inr (has-taken h, λ u. let v : lost G p < c * 1 = u in omega arith))
+  dead-lost c h l = let e = lost-is h in dead-test G p c .1 (inr (has-taken h, λ u. let v : leftNeighbours G p (pivot G p) < c * 1 = u in omega arith))
 
   pub dead-live : (c : Factor) → 0 < s .taken → s .apart ≡ false → s .left < c → dead G c p ≡ false
   dead-live c h e l =
@@ -143,7 +144,7 @@ module _ (G : Graph) (p : Position) (w : List ℕ) (s : State) (St : Stands G p 
       (λ t.
       ⊎-elim
       (λ a. true≢false (sym a ∙ sym (St .apart) ∙ e))
-      (λ b. let v : lost G p < c * 1 = omega arith in b .1 v)
+      (λ b. let v : leftNeighbours G p (pivot G p) < c * 1 = omega arith in b .1 v)
       (dead-test G p c .0 t))
 
   pub dead-by-left : (c : Factor) → 0 < s .taken → s .apart ≡ false → dead G c p ≡ leb c (s .left)

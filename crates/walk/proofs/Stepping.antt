@@ -17,7 +17,7 @@ use Rattle.theory.proofs.walk.Walk.{step-down, step-up}
 use Rattle.theory.proofs.calls.PageAccepted.{refuse-pass}
 use Rattle.theory.proofs.calls.Pages.{table-lawful}
 use Rattle.theory.proofs.walk.Moves.{step-accepted}
-use Rattle.graph.proofs.Work.{table-size}
+use Rattle.graph.proofs.Ranks.{table-size}
 use Rattle.walk.specs.State.{Stands}
 use Rattle.walk.specs.Walk.{rulesAt, Passes, Walking, Moved, Stepped}
 use Rattle.walk.specs.declared.State.{State}

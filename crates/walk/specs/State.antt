@@ -5,18 +5,13 @@ use mathlib.Core.Path.{_≡_}
 use mathlib.Core.Bool.{_&&_}
 use mathlib.Core.Logic.{_≢_}
 use mathlib.Core.List.{List, [], _∷_}
-use lib.ListN.{length, getD, take, drop}
+use lib.ListN.{length, getD}
 use Rattle.model.specs.Below.{passing}
-use Rattle.model.specs.Graph.{Graph, byTable, degree}
+use Rattle.model.specs.Graph.{Graph, degree}
+use Rattle.theory.specs.Parts.{part}
 use Rattle.model.specs.Walk.{Position, has}
 use Rattle.model.specs.Listing.{is, adjacent, pivot, apart, takenList}
-use Rattle.graph.specs.Table.{TableFits}
-use Rattle.graph.specs.Work.{HoldsDegrees, HoldsOrder}
 use Rattle.walk.specs.declared.State.{State}
-
--- k entries of the work slice from entry a on
-abbrev pub part : List ℕ → ℕ → ℕ → List ℕ
-part w a k = take k (drop a w)
 
 -- the taken ranks, lowest first
 unfoldable pub takenRanks : Graph → Position → List ℕ
@@ -51,10 +46,3 @@ pub record Stands (G : Graph) (p : Position) (w : List ℕ) (s : State) : Type 0
 -- the state and the work slice stand for some position
 abbrev pub StandsForOne : Graph → List ℕ → State → Type 0
 StandsForOne G w s = (p : Position) × Stands G p w s
-
--- the table fits, and the other slice holds its rank order and its degrees
-pub record Ranked (n : ℕ) (t ranks : List ℕ) : Type 0 where
-  pub fits : TableFits n t
-  pub room : 2 * n ≤ length ranks
-  pub order : HoldsOrder n (byTable n t) ranks
-  pub degrees : HoldsDegrees n (byTable n t) ranks

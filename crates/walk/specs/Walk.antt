@@ -12,7 +12,9 @@ use Rattle.model.specs.Walk.{Position, Rules, finished, step}
 use Rattle.model.specs.Listing.{adjacent, dead, rules}
 use Rattle.model.specs.Calls.{refuseTable, refusePosition}
 use Rattle.graph.specs.Table.{TableFits}
-use Rattle.walk.specs.State.{part, Stands, Ranked}
+use Rattle.graph.specs.Ranks.{HoldsRanks}
+use Rattle.theory.specs.Parts.{part}
+use Rattle.walk.specs.State.{Stands}
 use Rattle.walk.specs.declared.State.{State}
 
 -- the rules of a graph at a factor. Document 01, "The walk": dead doesn't depend on notion or kind, so any serve
@@ -55,7 +57,7 @@ pub record Trimmed (n : ℕ) (w : List ℕ) (k r m : ℕ) : Type 0 where
   pub kept : 0 < m → getD w (2 * n + (m - 1)) 0 < r
 
 -- the ranks from a to below e are open, and the others are as they were
-pub record Cleared (a e : ℕ) (p q : Position) : Type 0 where
+pub record RanksOpened (a e : ℕ) (p q : Position) : Type 0 where
   pub same-length : length q ≡ length p
   pub cleared : (r : ℕ) → a ≤ r → r < e → getD q r 0 ≡ 0
   pub below : (r : ℕ) → r < a → getD q r 0 ≡ getD p r 0
@@ -78,7 +80,7 @@ pub record Moved (G : Graph) (q p₂ : Position) (w₂ : List ℕ) (s₂ : State
 -- refusals 21 to 23.
 pub record Walking (n : ℕ) (c : Factor) (t ranks : List ℕ) (p : Position) (w : List ℕ) (s : State) : Type 0 where
   pub accepted : refuseTable n t 0 ≡ 0
-  pub ranked : Ranked n t ranks
+  pub ranked : HoldsRanks n t ranks
   pub stands : Stands (byTable n t) p w s
   pub passes : Passes (byTable n t) c p
 

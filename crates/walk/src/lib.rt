@@ -9,8 +9,9 @@ ghost use Rattle.model.specs.Graph.{byTable};
 ghost use Rattle.model.specs.Walk.{finished, advance, retreat};
 ghost use Rattle.model.specs.Listing.{apart};
 ghost use Rattle.model.specs.Calls.{over, gap, reopened};
-ghost use Rattle.walk.specs.State.{Stands, StandsForOne, Ranked};
-ghost use Rattle.walk.specs.Walk.{Pushed, Misses, BelowIn, Trimmed, Cleared, SaysFinished, SaysDead, Moved, Walking, Stepped};
+ghost use Rattle.graph.specs.Ranks.{HoldsRanks};
+ghost use Rattle.walk.specs.State.{Stands, StandsForOne};
+ghost use Rattle.walk.specs.Walk.{Pushed, Misses, BelowIn, Trimmed, RanksOpened, SaysFinished, SaysDead, Moved, Walking, Stepped};
 use graph::joined;
 
 // What a page keeps beside the position and the work slice: how many ranks are decided, how many of them are taken, how many neighbours of the
@@ -87,7 +88,7 @@ fn misses_one(table: &[u8], n: usize, work: &[u16], k: usize, v: usize) -> bool
 
 // Writes the ranks below d that are adjacent to d into part 2 of work, lowest first, and says how many. Reads the ranks below d.
 fn push_below(table: &[u8], ranks: &[u16], n: usize, d: usize, work: &mut [u16]) -> usize
-    requires { ⌜ Ranked n (now table) (now ranks) × (d < n) × (8 * n ≤ length (now work)) ⌝ }
+    requires { ⌜ HoldsRanks n (now table) (now ranks) × (d < n) × (8 * n ≤ length (now work)) ⌝ }
     ensures { λ r. ⌜ BelowIn (byTable n (now (table .entry))) d (now (work .exit)) r ⌝ }
 {
     let v = wide(ranks[d]);
@@ -106,7 +107,7 @@ fn push_below(table: &[u8], ranks: &[u16], n: usize, d: usize, work: &mut [u16])
 
 // The state with the next rank taken as the first of all, the pivot. Looks once through the ranks below it, which are all left.
 fn push_pivot(s: State, table: &[u8], ranks: &[u16], n: usize, work: &mut [u16]) -> State
-    requires { ⌜ Ranked n (now table) (now ranks) × StandsForOne (byTable n (now table)) (now work) s × (s .decided < n) × (s .taken ≡ 0) ⌝ }
+    requires { ⌜ HoldsRanks n (now table) (now ranks) × StandsForOne (byTable n (now table)) (now work) s × (s .decided < n) × (s .taken ≡ 0) ⌝ }
     ensures { λ r. ⌜ Pushed (byTable n (now (table .entry))) 1 (now (work .entry)) s (now (work .exit)) r ⌝ }
 {
     let d = s.decided;
@@ -127,7 +128,7 @@ fn push_pivot(s: State, table: &[u8], ranks: &[u16], n: usize, work: &mut [u16])
 
 // The state with the next rank taken where something is taken already. Tests its vertex against the taken ones.
 fn push_member(s: State, table: &[u8], ranks: &[u16], n: usize, work: &mut [u16]) -> State
-    requires { ⌜ Ranked n (now table) (now ranks) × StandsForOne (byTable n (now table)) (now work) s × (s .decided < n) × (0 < s .taken) ⌝ }
+    requires { ⌜ HoldsRanks n (now table) (now ranks) × StandsForOne (byTable n (now table)) (now work) s × (s .decided < n) × (0 < s .taken) ⌝ }
     ensures { λ r. ⌜ Pushed (byTable n (now (table .entry))) 1 (now (work .entry)) s (now (work .exit)) r ⌝ }
 {
     let d = s.decided;
@@ -149,7 +150,7 @@ fn push_member(s: State, table: &[u8], ranks: &[u16], n: usize, work: &mut [u16]
 
 // The state with the next rank taken. Does not touch the position.
 pub fn push_taken(s: State, table: &[u8], ranks: &[u16], n: usize, work: &mut [u16]) -> State
-    requires { ⌜ Ranked n (now table) (now ranks) × StandsForOne (byTable n (now table)) (now work) s × (s .decided < n) ⌝ }
+    requires { ⌜ HoldsRanks n (now table) (now ranks) × StandsForOne (byTable n (now table)) (now work) s × (s .decided < n) ⌝ }
     ensures { λ r. ⌜ Pushed (byTable n (now (table .entry))) 1 (now (work .entry)) s (now (work .exit)) r ⌝ }
 {
     let k = s.taken;
@@ -161,7 +162,7 @@ pub fn push_taken(s: State, table: &[u8], ranks: &[u16], n: usize, work: &mut [u
 
 // The state with the next rank left: a neighbour of the pivot goes onto part 2. Does not touch the position.
 pub fn push_left(s: State, table: &[u8], ranks: &[u16], n: usize, work: &mut [u16]) -> State
-    requires { ⌜ Ranked n (now table) (now ranks) × StandsForOne (byTable n (now table)) (now work) s × (s .decided < n) ⌝ }
+    requires { ⌜ HoldsRanks n (now table) (now ranks) × StandsForOne (byTable n (now table)) (now work) s × (s .decided < n) ⌝ }
     ensures { λ r. ⌜ Pushed (byTable n (now (table .entry))) 2 (now (work .entry)) s (now (work .exit)) r ⌝ }
 {
     let d = s.decided;
@@ -206,7 +207,7 @@ pub fn take(
     position: &mut [u8],
     work: &mut [u16],
 ) -> State
-    requires { ⌜ Ranked n (now table) (now ranks) × Stands (byTable n (now table)) (now position) (now work) s × (s .decided < n) ⌝ }
+    requires { ⌜ HoldsRanks n (now table) (now ranks) × Stands (byTable n (now table)) (now position) (now work) s × (s .decided < n) ⌝ }
     ensures { λ r. ⌜ Moved (byTable n (now (table .entry))) (advance (now (position .entry))) (now (position .exit)) (now (work .exit)) r ⌝ }
 {
     let d = s.decided;
@@ -217,7 +218,7 @@ pub fn take(
 // Opens the ranks from a to below e.
 fn open_ranks(position: &mut [u8], a: usize, e: usize)
     requires { ⌜ (a ≤ e) × (e ≤ length (now position)) ⌝ }
-    ensures { λ _. ⌜ Cleared a e (now (position .entry)) (now (position .exit)) ⌝ }
+    ensures { λ _. ⌜ RanksOpened a e (now (position .entry)) (now (position .exit)) ⌝ }
 {
     let mut i = a;
     while i < e {
@@ -252,7 +253,7 @@ pub fn back(
     position: &mut [u8],
     work: &mut [u16],
 ) -> State
-    requires { ⌜ Ranked n (now table) (now ranks) × Stands (byTable n (now table)) (now position) (now work) s × (0 < s .taken) × (apart (byTable n (now table)) (reopened (now position)) ≡ false) ⌝ }
+    requires { ⌜ HoldsRanks n (now table) (now ranks) × Stands (byTable n (now table)) (now position) (now work) s × (0 < s .taken) × (apart (byTable n (now table)) (reopened (now position)) ≡ false) ⌝ }
     ensures { λ r. ⌜ Moved (byTable n (now (table .entry))) (retreat (now (position .entry))) (now (position .exit)) (now (work .exit)) r ⌝ }
 {
     let d = s.decided;
@@ -309,7 +310,7 @@ pub fn step(
 
 // The state with the next rank decided as the mark says, 1 taken and 2 left.
 fn push(s: State, mark: u8, table: &[u8], ranks: &[u16], n: usize, work: &mut [u16]) -> State
-    requires { ⌜ Ranked n (now table) (now ranks) × StandsForOne (byTable n (now table)) (now work) s × (s .decided < n) × (0 < mark) × (mark ≤ 2) ⌝ }
+    requires { ⌜ HoldsRanks n (now table) (now ranks) × StandsForOne (byTable n (now table)) (now work) s × (s .decided < n) × (0 < mark) × (mark ≤ 2) ⌝ }
     ensures { λ r. ⌜ Pushed (byTable n (now (table .entry))) mark (now (work .entry)) s (now (work .exit)) r ⌝ }
 {
     if mark == 1 {
@@ -320,7 +321,7 @@ fn push(s: State, mark: u8, table: &[u8], ranks: &[u16], n: usize, work: &mut [u
 
 // The state of a position that passes refusals 21 and 22. Goes once through its decided ranks.
 pub fn rebuild(table: &[u8], ranks: &[u16], n: usize, position: &[u8], work: &mut [u16]) -> State
-    requires { ⌜ Ranked n (now table) (now ranks) × (length (now position) ≡ n) × (8 * n ≤ length (now work)) × (over 2 (now position) ≡ false) × (gap (now position) ≡ false) ⌝ }
+    requires { ⌜ HoldsRanks n (now table) (now ranks) × (length (now position) ≡ n) × (8 * n ≤ length (now work)) × (over 2 (now position) ≡ false) × (gap (now position) ≡ false) ⌝ }
     ensures { λ r. ⌜ Stands (byTable n (now (table .entry))) (now (position .entry)) (now (work .exit)) r ⌝ }
 {
     let mut s = State {

@@ -3,7 +3,7 @@
 use mathlib.Core.Path.{refl}
 use native.Mathlib.Omega.{arith}
 use borrow.Author.Tests.{not-true, not-false}
-use Rattle.graph.proofs.Work.{table-size}
+use Rattle.graph.proofs.Ranks.{table-size}
 use Rattle.emit.proofs.Judging.{taken-few}
 use Rattle.emit.proofs.Emitting.{emitted-none, emitted-full, emitted-put}
 use borrow.Author.Needs.{needs}

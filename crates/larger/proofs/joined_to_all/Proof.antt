@@ -8,8 +8,8 @@ use lib.ListN.{take}
 use borrow.Author.Tests.{not-true, not-false}
 use Rattle.model.specs.Graph.{byTable}
 use Rattle.theory.specs.Search.{joinedAll}
-use Rattle.larger.specs.Parts.{part}
-use Rattle.larger.proofs.Parts.{all-none, all-more, all-apart, all-end}
+use Rattle.theory.specs.Parts.{part}
+use Rattle.larger.proofs.Joined.{all-none, all-more, all-apart, all-end}
 use borrow.Author.Needs.{needs}
 use Rattle.larger.proofs.joined_to_all.Statement.{statement}
 use Rattle.larger.proofs.joined_to_all.Tie as tie

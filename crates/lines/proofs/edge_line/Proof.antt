@@ -9,7 +9,7 @@ use borrow.Author.Tests.{not-true, not-false}
 use borrow.Author.Needs.{needs}
 use Rattle.model.specs.Text.{fieldsOf, eLine, lineStep, unspaced}
 use Rattle.number.specs.declared.Pair.{Pair}
-use Rattle.number.specs.Field.{given, twoOf}
+use Rattle.number.specs.Field.{onPair, twoOf}
 use Rattle.lines.specs.Line.{readingOf}
 use Rattle.number.proofs.Splits.{part-tail}
 use Rattle.lines.proofs.Lines.{unspaced-true, unspaced-false, spaced-long, edge-31, edge-33, edge-goes}
@@ -80,7 +80,7 @@ returns-3 c =
     let g = e .before .before .before .before .before .before .args in
     let r = readingOf (g .s) (g .table .now) in
     stepped-as (c .before .before .edge .ensures)
-    (ap (λ (p : Pair). given p (eLine r)) (sym (c .before .before .before .before .before .u .given .1))
+    (ap (λ (p : Pair). onPair p (eLine r)) (sym (c .before .before .before .before .before .u .given .1))
     ∙ c .before .before .before .before .before .before .before .two-numbers .ensures .goes (eLine r)
     ∙ goes e)
 
@@ -89,7 +89,7 @@ returns-4 c =
     let e = c .before .before .before .before in
     let g = e .before .before .before .before .before .before .args in
     let r = readingOf (g .s) (g .table .now) in
-    faulty (ap (λ (p : Pair). given p (eLine r)) (sym (c .enum-told .given .1))
+    faulty (ap (λ (p : Pair). onPair p (eLine r)) (sym (c .enum-told .given .1))
     ∙ c .before .before .two-numbers .ensures .goes (eLine r)
     ∙ goes e)
 

@@ -9,7 +9,7 @@ use borrow.Author.Tests.{not-true, not-false}
 use borrow.Author.Needs.{needs}
 use Rattle.model.specs.Text.{fieldsOf, pFields, pLine, lineStep, unspaced}
 use Rattle.number.specs.declared.Pair.{Pair}
-use Rattle.number.specs.Field.{given, twoOf, SixDigitsEach}
+use Rattle.number.specs.Field.{onPair, twoOf, SixDigitsEach}
 use Rattle.lines.specs.Line.{readingOf}
 use Rattle.number.proofs.Splits.{part-tail}
 use Rattle.lines.proofs.Lines.{p-edge, unspaced-true, unspaced-false, problem-31, problem-34, problem-goes, problem-other, problem-bare, problem-unspaced, problem-fields}
@@ -124,14 +124,14 @@ returns-6 c =
     let g = b .args in
     from-start (b .pre .1 .fresh (c .before .before .before .before .before .before .before .before .before .before .before .before .before .if2 .left))
     (stepped-as (c .before .before .problem .ensures)
-    (ap (λ (p : Pair). given p (pLine (length (g .table .now)))) (sym (c .before .before .before .before .before .n .given .1))
+    (ap (λ (p : Pair). onPair p (pLine (length (g .table .now)))) (sym (c .before .before .before .before .before .n .given .1))
     ∙ c .before .before .before .before .before .before .before .two-numbers .ensures .goes (pLine (length (g .table .now)))
     ∙ numbers (c .before .before .before .before .before .before .before .before .before)))
 
 returns-7 : tie.Need-returns-7
 returns-7 c =
     let g = c .before .before .before .before .before .before .before .before .before .before .before .before .before .before .before .args in
-    faulty (ap (λ (p : Pair). given p (pLine (length (g .table .now)))) (sym (c .enum-told .given .1))
+    faulty (ap (λ (p : Pair). onPair p (pLine (length (g .table .now)))) (sym (c .enum-told .given .1))
     ∙ c .before .before .two-numbers .ensures .goes (pLine (length (g .table .now)))
     ∙ numbers (c .before .before .before .before))
 

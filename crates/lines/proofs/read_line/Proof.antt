@@ -4,14 +4,14 @@ use mathlib.Core.Path.{_≡_}
 use native.Mathlib.Omega.{arith}
 use lib.ListN.{getD}
 use borrow.Author.Needs.{needs}
-use Rattle.lines.specs.Line.{readingOf, Letter}
+use Rattle.lines.specs.Line.{readingOf, FirstByte}
 use Rattle.lines.proofs.Lines.{line-empty, line-other, comment-passes, comment-31}
 use Rattle.lines.proofs.Steps.{faulty, unchanged}
 use Rattle.lines.proofs.read_line.Statement.{statement}
 use Rattle.lines.proofs.read_line.Tie as tie
 
 -- a line that is not empty has a first letter
-letter : (c : tie.After-shared-slice-known2) {b : ℕ} → getD (c .before .before .before .before .args .line .now) 0 0 ≡ b → Letter b (c .before .before .before .before .args .line .now)
+letter : (c : tie.After-shared-slice-known2) {b : ℕ} → getD (c .before .before .before .before .args .line .now) 0 0 ≡ b → FirstByte b (c .before .before .before .before .args .line .now)
 letter c e = record { some = omega arith; first = e }
 
 returns : tie.Need-returns

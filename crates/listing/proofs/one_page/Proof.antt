@@ -6,6 +6,7 @@ use native.Mathlib.Omega.{arith}
 use lib.ListN.{length, take, length-take}
 use lib.Seq.{length-take-le}
 use lib.Dec.{eqb}
+use Rattle.model.specs.Walk.{stoppedFinished}
 use Rattle.model.specs.Program.{printed}
 use Rattle.isolation.specs.Numbers.{settingsOf}
 use Rattle.print.proofs.Places.{puts-as}
@@ -50,7 +51,7 @@ returns c =
     let e = r .ensures .replies in
     record {
       position = e .position;
-      finished = ap (λ (k : ℕ). eqb k 1) (e .stop);
+      finished = ap (λ (k : ℕ). eqb k stoppedFinished) (e .stop);
       groups = e .groups;
       steps = e .steps;
       puts = puts-as (ap printed (ap₂ (λ (k : ℕ) (l : List ℕ). take k l) (e .used) (e .output))) (c .before .before .before .print-entries .ensures);

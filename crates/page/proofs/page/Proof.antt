@@ -1,9 +1,9 @@
 -- `page::page` meets its contract, way by way: refused by its input, refused by its position, accepted.
 -- Assumes nothing.
 use mathlib.Core.Path.{refl, sym, _∙_}
-use Rattle.page.specs.Call.{given}
+use Rattle.model.specs.Groups.{settings}
 use Rattle.page.proofs.Refusing.{refused-input, refused-position}
-use Rattle.page.proofs.Calling.{passed, position-passes, ranks-fit, ranked, ranked-order, called-refused, called-accepted, begins}
+use Rattle.page.proofs.Calling.{passed, position-passes, ranks-fit, ranked, called-refused, called-accepted, begins}
 use borrow.Author.Needs.{needs}
 use Rattle.page.proofs.page.Statement.{statement}
 use Rattle.page.proofs.page.Tie as tie
@@ -35,7 +35,7 @@ slice-aggregate-position-refusal c = search needs
 
 position-refusal-requires : tie.Need-position-refusal-requires
 position-refusal-requires c κs = let h = passed _ _ _ _ _ (sym (c .before .before .before .before .before .before .input-refusal .ensures) ∙ c .before .before .before .before .before .if1 .left) in
-    (ranked-order (h .fits) _ refl (c .before .before .before .prepare .ensures), h .long)
+    (ranked (h .fits) _ refl (c .before .before .before .prepare .ensures), h .long)
 
 turned-back-requires-2 : tie.Need-turned-back-requires-2
 turned-back-requires-2 c κs = tt
@@ -56,7 +56,7 @@ slice-aggregate-rebuild c = search needs
 
 rebuild-requires : tie.Need-rebuild-requires
 rebuild-requires c κs = let h = passed _ _ _ _ _ (sym (c .before .before .before .before .before .before .before .before .before .before .before .input-refusal .ensures) ∙ c .before .before .before .before .before .before .before .before .before .before .if1 .left) in
-    let g = position-passes _ _ _ _ (sym (c .before .before .before .before .position-refusal .ensures (given (c .before .before .before .before .before .before .before .before .before .before .before .before .before .before .before .before .before .before .args .notion) (c .before .before .before .before .before .before .before .before .before .before .before .before .before .before .before .before .before .before .args .kind) (c .before .before .before .before .before .before .before .before .before .before .before .before .before .before .before .before .before .before .args .c)) refl) ∙ c .before .before .before .if2 .left) in
+    let g = position-passes _ _ _ _ (sym (c .before .before .before .before .position-refusal .ensures (settings (c .before .before .before .before .before .before .before .before .before .before .before .before .before .before .before .before .before .before .args .notion) (c .before .before .before .before .before .before .before .before .before .before .before .before .before .before .before .before .before .before .args .kind) (c .before .before .before .before .before .before .before .before .before .before .before .before .before .before .before .before .before .before .args .c)) refl) ∙ c .before .before .before .if2 .left) in
     (ranked (h .fits) _ refl (c .before .before .before .before .before .before .before .before .prepare .ensures), h .long, h .enough, g .0, g .1)
 
 slice-aggregate-run : tie.Need-slice-aggregate-run

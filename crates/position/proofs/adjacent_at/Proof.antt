@@ -31,7 +31,7 @@ joined-requires c κs =
     let below = entry-below (b .args .n) (b .args .table .now) (b .args .ranks .now) (b .pre .0) in
     let la = below (b .args .a) (b .pre .1) in
     let lb = below (b .args .b) (b .pre .2) in
-    (b .pre .0 .table, omega (arith, la, c .before .before .wide .ensures), omega (arith, lb, c .wide2 .ensures))
+    (b .pre .0 .fits, omega (arith, la, c .before .before .wide .ensures), omega (arith, lb, c .wide2 .ensures))
 
 returns : tie.Need-returns
 returns c =

@@ -10,7 +10,7 @@ use Rattle.model.specs.Groups.{within}
 use Rattle.model.specs.Graph.{Graph, byTable}
 use Rattle.model.specs.Listing.{is}
 use Rattle.theory.proofs.walk.Scans.{least-le, dead-apart, dead-untaken, dead-lost}
-use Rattle.graph.proofs.Work.{table-size}
+use Rattle.graph.proofs.Ranks.{table-size}
 use Rattle.position.proofs.Positions.{at-least}
 use borrow.Author.Needs.{needs}
 use Rattle.position.proofs.is_dead.Statement.{statement}

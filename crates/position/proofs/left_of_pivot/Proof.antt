@@ -9,6 +9,8 @@ use lib.ListN.{length}
 use Rattle.model.specs.Below.{count}
 use Rattle.model.specs.Graph.{byTable}
 use Rattle.theory.proofs.basics.Tests.{count-none, count-hit, count-miss}
+use Rattle.theory.proofs.walk.Scans.{left-within}
+use Rattle.graph.proofs.Ranks.{table-size}
 use Rattle.position.specs.Position.{leftNeighbour}
 use borrow.Author.Needs.{needs}
 use Rattle.position.proofs.left_of_pivot.Statement.{statement}
@@ -52,6 +54,7 @@ returns c =
     let b = c .before .before .before .before .before in
     c .before .loop .inv .1
     ∙ ap (λ (k : ℕ). count k (leftNeighbour (byTable (b .args .n) (b .args .table .now)) (b .args .position .now) (b .args .pivot))) (omega arith)
+    ∙ sym (left-within _ (b .args .position .now) (omega (arith, b .pre .1, table-size (b .args .n) (b .args .table .now))) (b .args .pivot))
 
 pub left-of-pivot-spec : {M : Type 1} → statement M
 left-of-pivot-spec =

@@ -8,7 +8,7 @@ use lib.ListN.{length}
 use borrow.Author.Tests.{eq-eqb, ne-eqb}
 use borrow.Author.Count.{below-more}
 use Rattle.model.specs.Listing.{is}
-use Rattle.theory.proofs.walk.Scans.{least-at}
+use Rattle.theory.proofs.basics.Counting.{least-is}
 use borrow.Author.Needs.{needs}
 use Rattle.position.proofs.lowest.Statement.{statement}
 use Rattle.position.proofs.lowest.Tie as tie
@@ -29,7 +29,7 @@ returns : tie.Need-returns Inv-loop μ-loop
 returns c =
     let b = c .before .before .before .before in
     let l = c .before .before .before .loop in
-    sym (least-at (length (b .args .position .now)) (is (b .args .x) (b .args .position .now)) (l .i) (omega arith) (l .inv .1) (λ _. eq-eqb _ _ (c .if1 .taken)))
+    sym (least-is (length (b .args .position .now)) (is (b .args .x) (b .args .position .now)) (l .i) (omega arith) (l .inv .1) (λ _. eq-eqb _ _ (c .if1 .taken)))
 
 add-i : tie.Need-add-i Inv-loop μ-loop
 add-i c = search needs
@@ -44,7 +44,7 @@ returns-2 : tie.Need-returns-2 Inv-loop μ-loop
 returns-2 c =
     let b = c .before .before in
     let l = c .before .loop in
-    sym (least-at (length (b .args .position .now)) (is (b .args .x) (b .args .position .now)) (l .i) (l .inv .0) (l .inv .1) (λ h. absurd (omega arith)))
+    sym (least-is (length (b .args .position .now)) (is (b .args .x) (b .args .position .now)) (l .i) (l .inv .0) (l .inv .1) (λ h. absurd (omega arith)))
 
 pub lowest-spec : {M : Type 1} → statement M
 lowest-spec =

@@ -6,8 +6,8 @@ use mathlib.Core.Logic.{⊎-elim}
 use native.Mathlib.Omega.{arith}
 use Rattle.model.specs.Graph.{byTable}
 use Rattle.theory.specs.Search.{joinedAll}
-use Rattle.larger.specs.Parts.{part}
-use Rattle.larger.proofs.Parts.{same-members}
+use Rattle.theory.specs.Parts.{part}
+use Rattle.theory.proofs.basics.Parts.{same-members}
 use Rattle.query.proofs.Filled.{Filled, filled-same, filled-none, filled-hit, filled-miss, filled-all}
 use Rattle.query.proofs.common_neighbours.Statement.{statement}
 use Rattle.query.proofs.common_neighbours.Tie as tie

@@ -7,7 +7,7 @@ use native.Mathlib.Omega.{arith}
 use borrow.Author.Tests.{not-true, not-false}
 use Rattle.model.specs.Below.{all}
 use Rattle.model.specs.Graph.{byTable}
-use Rattle.larger.specs.Parts.{part}
+use Rattle.theory.specs.Parts.{part}
 use Rattle.query.proofs.Members.{joins-before, pairs-none, pairs-more, pairs-apart, pairs-all}
 use Rattle.query.proofs.pairwise_joined.Statement.{statement}
 use Rattle.query.proofs.pairwise_joined.Tie as tie

@@ -5,7 +5,7 @@ use mathlib.Core.Path.{_≡_, ap}
 use native.Mathlib.Omega.{arith}
 use lib.ListN.{getD}
 use Rattle.isolation.specs.declared.Tally.{Tally}
-use Rattle.larger.specs.Parts.{part}
+use Rattle.theory.specs.Parts.{part}
 use Rattle.query.proofs.Members.{TalliesFirst, tallies-none, tallies-more, tallies-all}
 use Rattle.query.proofs.tally_of.Statement.{statement}
 use Rattle.query.proofs.tally_of.Tie as tie

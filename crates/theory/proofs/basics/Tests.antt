@@ -82,6 +82,10 @@ test-agree {a} {b} s t f g = go a b (λ e. t .1 (f (s .0 e))) (λ e. s .1 (g (t 
     go false true f g = g refl
     go false false f g = refl
 
+-- two tests of one thing are one
+pub same-test : {a b : Bool} {A : Type 0} → Test a A → Test b A → a ≡ b
+same-test s t = test-agree s t (λ x. x) (λ x. x)
+
 -- less
 pub test-lt : (a b : ℕ) → Test (ltb a b) (a < b)
 test-lt a b = (ltb-true a b, lt-ltb a b)
@@ -229,3 +233,16 @@ fails false f = refl
 pub passes-or-fails : (a : Bool) → (a ≡ true) ⊎ (a ≡ false)
 passes-or-fails true = inl refl
 passes-or-fails false = inr refl
+
+-- tests over the numbers below n go by what stands there
+pub any-same : (n : ℕ) (p q : ℕ → Bool) → ((i : ℕ) → i < n → p i ≡ q i) → any n p ≡ any n q
+any-same n p q e =
+    test-agree (test-any n p (λ i. test-self)) (test-any n q (λ i. test-self))
+    (λ r. (r .0, r .1, sym (e (r .0) (r .1)) ∙ r .2))
+    (λ r. (r .0, r .1, e (r .0) (r .1) ∙ r .2))
+
+pub all-same : (n : ℕ) (p q : ℕ → Bool) → ((i : ℕ) → i < n → p i ≡ q i) → all n p ≡ all n q
+all-same n p q e =
+    test-agree (test-all n p (λ i. test-self)) (test-all n q (λ i. test-self))
+    (λ f i h. sym (e i h) ∙ f i h)
+    (λ f i h. e i h ∙ f i h)

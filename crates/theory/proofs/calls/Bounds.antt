@@ -12,7 +12,7 @@ use borrow.Author.Tests.{ltb-false}
 use Rattle.model.specs.Below.{bit}
 use Rattle.model.specs.Graph.{byTable}
 use Rattle.model.specs.Groups.{Settings}
-use Rattle.model.specs.Walk.{Position, Rules, Page, halt, onward, has, finished, advance, retreat, step, found, due, page}
+use Rattle.model.specs.Walk.{Position, Rules, Page, halt, onward, has, finished, advance, retreat, step, found, due, page, stoppedFinished, stoppedFull, stoppedSpent}
 use Rattle.model.specs.Listing.{rules}
 use Rattle.model.specs.Calls.{refusePage, replyOf, pageCall}
 use Rattle.model.specs.Demand.{PageBounds}
@@ -29,14 +29,14 @@ module _ (R : Rules) where
       go false = retreat-length p
 
   -- what a page keeps within its budget and room
-  abbrev Kept : ℕ → ℕ → Position → Page → Type 0
-  Kept budget room p r = (r .steps ≤ budget) × (length (r .written) ≤ room) × (length (r .reached) ≡ length p)
+  abbrev Bounded : ℕ → ℕ → Position → Page → Type 0
+  Bounded budget room p r = (r .steps ≤ budget) × (length (r .written) ≤ room) × (length (r .reached) ≡ length p)
 
-  page-kept : (budget room : ℕ) (p : Position) → Kept budget room p (page R budget room p)
+  page-kept : (budget room : ℕ) (p : Position) → Bounded budget room p (page R budget room p)
   unfolding page
   page-kept zero room p = go (finished p)
     where
-      go : (a : Bool) → Kept zero room p (cond a (halt 1 0 p) (halt 2 0 p))
+      go : (a : Bool) → Bounded zero room p (cond a (halt stoppedFinished 0 p) (halt stoppedSpent 0 p))
       go true = (zero-le, zero-le, refl)
       go false = (zero-le, zero-le, refl)
   page-kept (suc budget) room p = go (finished p) (ltb room (length (due R p))) refl (page-kept budget (room - length (due R p)) (step R p))
@@ -44,8 +44,8 @@ module _ (R : Rules) where
       rest : Page
       rest = page R budget (room - length (due R p)) (step R p)
 
-      go : (a c : Bool) → ltb room (length (due R p)) ≡ c → Kept budget (room - length (due R p)) (step R p) rest
-          → Kept (suc budget) room p (cond a (halt 1 0 p) (cond c (halt 3 (length (due R p)) p) (onward (bit (found R p)) (due R p) rest)))
+      go : (a c : Bool) → ltb room (length (due R p)) ≡ c → Bounded budget (room - length (due R p)) (step R p) rest
+          → Bounded (suc budget) room p (cond a (halt stoppedFinished 0 p) (cond c (halt stoppedFull (length (due R p)) p) (onward (bit (found R p)) (due R p) rest)))
       go true c e k = (zero-le, zero-le, refl)
       go false true e k = (zero-le, zero-le, refl)
       go false false e k =

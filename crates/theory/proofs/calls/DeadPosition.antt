@@ -15,9 +15,9 @@ use Rattle.model.specs.Graph.{Graph, vertexAt}
 use Rattle.model.specs.Groups.{Factor}
 use Rattle.model.specs.Meaning.{Under}
 use Rattle.model.specs.Walk.{Position, only, has}
-use Rattle.model.specs.Listing.{is, adjacent, pivot, apart, lost, dead}
+use Rattle.model.specs.Listing.{is, adjacent, pivot, apart, leftNeighbours, dead}
 use Rattle.model.specs.Calls.{gap, reopened}
-use Rattle.model.specs.Faults.{Apart, leftNeighbours, Dead, Reopened}
+use Rattle.model.specs.Faults.{Apart, Dead, Reopened}
 pub use Rattle.theory.proofs.basics.Tests.{test-map, in-length, not-different}
 use Rattle.theory.proofs.basics.Tests.{Test, fails, passes-or-fails, last-or-below, trichotomy}
 use Rattle.theory.proofs.basics.Counting.{least-first, least-is}
@@ -110,10 +110,6 @@ module _ (G : Graph) (mirrored : (u v : ℕ) → G .joined u v ≡ true → G .j
           (⊎-elim (λ e. absurd (a .different e)) (λ l. pair (a .other) (a .one) (a .other-taken) (a .one-taken) l (turned (a .one) (a .other) (a .not-adjacent))))
           (trichotomy (a .one) (a .other))
 
-  lost-is : (r : ℕ) → pivot G p ≡ r → lost G p ≡ leftNeighbours G p r
-  unfolding lost leftNeighbours
-  lost-is r e = ap (λ (r : ℕ). count (G .size) (λ i. is 2 p i && adjacent G r i)) e
-
   below-pivot : (r : ℕ) → r < pivot G p → getD p r 0 ≢ 1
   unfolding pivot
   below-pivot r l e = true≢false (sym (eq-eqb (getD p r 0) 1 e) ∙ least-first (G .size) (is 1 p) r l)
@@ -122,7 +118,7 @@ module _ (G : Graph) (mirrored : (u v : ℕ) → G .joined u v ≡ true → G .j
   pub dead-iff : Test (dead G c p) (Dead G c p)
   dead-iff = test-map (dead-test G p c) there back
     where
-      there : (apart G p ≡ true) ⊎ ((has 1 p ≡ true) × (Under c 1 (lost G p) → ⊥)) → Dead G c p
+      there : (apart G p ≡ true) ⊎ ((has 1 p ≡ true) × (Under c 1 (leftNeighbours G p (pivot G p)) → ⊥)) → Dead G c p
       there (inl e) = inl (apart-iff .0 e)
       there (inr d) =
           inr
@@ -130,14 +126,14 @@ module _ (G : Graph) (mirrored : (u v : ℕ) → G .joined u v ≡ true → G .j
             pivot = pivot G p;
             taken = eqb-true _ 1 (pivot-taken G p long (d .0) .1);
             lowest = below-pivot;
-            at-least = λ u. d .1 (rw (lost-is (pivot G p) refl) u);
+            at-least = λ u. d .1 u;
           })
 
-      back : Dead G c p → (apart G p ≡ true) ⊎ ((has 1 p ≡ true) × (Under c 1 (lost G p) → ⊥))
+      back : Dead G c p → (apart G p ≡ true) ⊎ ((has 1 p ≡ true) × (Under c 1 (leftNeighbours G p (pivot G p)) → ⊥))
       back (inl a) = inl (apart-iff .1 a)
       back (inr d) =
           inr
-          (has-test 1 p .1 (d .pivot, taken-below p (d .pivot) (d .taken), d .taken), λ u. d .at-least (rw (lost-is (d .pivot) (pivot-least (d .pivot) (d .taken) (d .lowest))) at u))
+          (has-test 1 p .1 (d .pivot, taken-below p (d .pivot) (d .taken), d .taken), λ u. d .at-least (rw (ap (leftNeighbours G p) (pivot-least (d .pivot) (d .taken) (d .lowest))) at u))
 
 -- ---- the last decided rank
 

@@ -15,7 +15,7 @@ use Rattle.model.specs.Below.{bit, passing}
 use Rattle.model.specs.Graph.{Graph, onVertices, byTable, vertexAt}
 use Rattle.model.specs.Groups.{Settings, VertexSet}
 use Rattle.model.specs.Meaning.{Qualifies}
-use Rattle.model.specs.Walk.{Position, Rules, Page, halt, onward, fresh, finished, step, after, lasts, found, due, groupsOf, records, fullSets, fullList, page}
+use Rattle.model.specs.Walk.{Position, Rules, Page, halt, onward, fresh, finished, step, after, lasts, found, due, groupsOf, records, fullSets, fullList, page, stoppedFinished, stoppedFull, stoppedSpent}
 use Rattle.model.specs.Listing.{is, rules, takenList, recordOf}
 use Rattle.model.specs.Calls.{PageReply, looped, refuseTable, refusePage, replyOf, pageCall}
 use Rattle.model.specs.Demand.{Call, replyTo, replies, leftAt, joinedOutput, allSteps, allGroups, Agree, Prefix, SaidFinished, SomeFinished, Demand3, Each, MakesStep, Idle, RefusedIdle, Demanded}
@@ -71,12 +71,12 @@ module _ (R : Rules) where
 
   -- a page does a stretch of the walk, and says Finished exactly where it ends finished
   abbrev pub Does : Position → Page → Type 0
-  Does p r = Went R p (r .steps) (r .reached) (r .written) (r .groups) × ((r .stop ≡ 1) ↔ (finished (r .reached) ≡ true))
+  Does p r = Went R p (r .steps) (r .reached) (r .written) (r .groups) × ((r .stop ≡ stoppedFinished) ↔ (finished (r .reached) ≡ true))
 
-  halt-finished : (p : Position) → finished p ≡ true → Does p (halt 1 0 p)
+  halt-finished : (p : Position) → finished p ≡ true → Does p (halt stoppedFinished 0 p)
   halt-finished p e = (went-stay p, (λ _. e, λ _. refl))
 
-  halt-else : (stop wanted : ℕ) (p : Position) → (stop ≡ 1 → ⊥) → finished p ≡ false → Does p (halt stop wanted p)
+  halt-else : (stop wanted : ℕ) (p : Position) → (stop ≡ stoppedFinished → ⊥) → finished p ≡ false → Does p (halt stop wanted p)
   halt-else stop wanted p d e = (went-stay p, (λ s. absurd (d s), λ f. absurd (true≢false (sym f ∙ e))))
 
   -- a page does a stretch of the walk
@@ -84,7 +84,7 @@ module _ (R : Rules) where
   unfolding page
   page-does zero room p = go (finished p) refl
     where
-      go : (a : Bool) → finished p ≡ a → Does p (cond a (halt 1 0 p) (halt 2 0 p))
+      go : (a : Bool) → finished p ≡ a → Does p (cond a (halt stoppedFinished 0 p) (halt stoppedSpent 0 p))
       go true e = halt-finished p e
       go false e = halt-else 2 0 p (λ s. omega arith) e
   page-does (suc budget) room p = go (finished p) (ltb room (length (due R p))) refl (page-does budget (room - length (due R p)) (step R p))
@@ -93,7 +93,7 @@ module _ (R : Rules) where
       rest = page R budget (room - length (due R p)) (step R p)
 
       go : (a c : Bool) → finished p ≡ a → Does (step R p) rest
-          → Does p (cond a (halt 1 0 p) (cond c (halt 3 (length (due R p)) p) (onward (bit (found R p)) (due R p) rest)))
+          → Does p (cond a (halt stoppedFinished 0 p) (cond c (halt stoppedFull (length (due R p)) p) (onward (bit (found R p)) (due R p) rest)))
       go true c e d = halt-finished p e
       go false true e d = halt-else 3 (length (due R p)) p (λ s. omega arith) e
       go false false e d = (went-step p (rest .steps) (rest .reached) (rest .written) (rest .groups) e (d .0), d .1)
@@ -176,7 +176,7 @@ module _ (R : Rules) (n : ℕ) (law : Lawful R n) (k : ℕ) (q : Position) (es :
 -- a reply to a call that was handed p: a stretch of the walk, and Finished said exactly where it ends finished
 abbrev pub Replied : Rules → Position → PageReply → Type 0
 Replied R p r =
-    Went R p (r .steps) (r .position) (take (r .used) (r .output)) (r .groups) × (r .refused ≡ 0 → (r .stop ≡ 1) ↔ (finished (r .position) ≡ true))
+    Went R p (r .steps) (r .position) (take (r .used) (r .output)) (r .groups) × (r .refused ≡ 0 → (r .stop ≡ stoppedFinished) ↔ (finished (r .position) ≡ true))
 
 -- replies of which each was handed the position that the one before it left
 abbrev pub Chain : Rules → Position → List PageReply → Type 0

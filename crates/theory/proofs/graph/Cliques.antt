@@ -12,7 +12,7 @@ use Rattle.model.specs.Below.{implies, all, count}
 use Rattle.model.specs.Graph.{Graph, degree, rankOf}
 use Rattle.model.specs.Groups.{Factor, VertexSet, within, sizeOf, outside, outgoing, with-vertex}
 use Rattle.model.specs.Meaning.{In, Under, Clique, Isolated, IsolatedClique, Larger}
-use Rattle.theory.specs.Search.{Loopless, Symmetric, Joins, common, Common}
+use Rattle.theory.specs.Search.{Loopless, Symmetric, JoinsAll, common, Common}
 use Rattle.theory.proofs.basics.Tests.{Test, test-and, test-or, test-implies, test-self, test-fails, test-eq, test-all, trichotomy, fails, passes-or-fails, count-same}
 use Rattle.theory.proofs.basics.Counting.{count-remove, count-split, count-sub}
 use Rattle.theory.proofs.graph.Ranks.{rank-degree}
@@ -87,7 +87,7 @@ pub other-vertex : (v : ℕ) (S : VertexSet) (i : ℕ) → i ≢ v → with-vert
 other-vertex v S i d = rw (ne-eqb i v d)
 
 -- a vertex that is joined to each member is not in the set, and a clique with it is a larger clique
-module _ (G : Graph) (S : VertexSet) (v : ℕ) (vertex : v < G .size) (joins : Joins G S v) where
+module _ (G : Graph) (S : VertexSet) (v : ℕ) (vertex : v < G .size) (joins : JoinsAll G S v) where
   -- it is not in the set
   pub joins-new : Loopless G → S v ≡ false
   joins-new loopless = fails (S v) (λ e. true≢false (sym (joins v (vertex, e)) ∙ loopless v vertex))
@@ -129,7 +129,7 @@ module _ (G : Graph) (S : VertexSet) where
   -- a member of a larger clique is joined to each member, and so it is a common neighbour
   module _ (L : VertexSet) (D : Clique G L) (contains : (u : ℕ) → In G S u → In G L u) (w : ℕ) (h : In G L w) (new : S w ≡ false) where
     -- it is joined to each
-    pub further-joins : Joins G S w
+    pub further-joins : JoinsAll G S w
     further-joins u hu = D .pairwise w u h (contains u hu) (λ e. true≢false (sym (hu .1) ∙ ap S (sym e) ∙ new))
 
     -- and so it is a common neighbour

@@ -14,7 +14,7 @@ use Rattle.model.specs.Graph.{Graph, degree}
 use Rattle.model.specs.Groups.{Factor, VertexSet, within, sizeOf, outside, outgoing, isolatedMin, isolatedAvg, isolatedMax, isolated, with-vertex}
 use Rattle.model.specs.Meaning.{In, Clique}
 use Rattle.theory.specs.Search.{Loopless, gather, degreeSum, leastDegree, largestDegree, isolatedBy, Tally}
-pub use Rattle.theory.proofs.basics.Tests.{test-agree}
+pub use Rattle.theory.proofs.basics.Tests.{test-agree, any-same, all-same}
 use Rattle.theory.proofs.basics.Tests.{test-self, test-any, test-all, last-or-below, trichotomy, lt-or-ge, count-same, count-le}
 use Rattle.theory.proofs.basics.Counting.{count-remove}
 use Rattle.theory.proofs.graph.Meaning.{isolated-test}
@@ -199,19 +199,6 @@ module _ (G : Graph) (S : VertexSet) where
       go : (largestDegree G S ≡ 0) ⊎ ((x : ℕ) × (x < G .size) × (S x ≡ true) × (degree G x ≡ largestDegree G S)) → (x : ℕ) × In G S x × (degree G x ≡ largestDegree G S)
       go (inl e) = let a = largest-bound u h in (u, h, omega arith)
       go (inr r) = (r .0, (r .1, r .2), r .3)
-
--- tests over the numbers below n go by what stands there
-any-same : (n : ℕ) (p q : ℕ → Bool) → ((i : ℕ) → i < n → p i ≡ q i) → any n p ≡ any n q
-any-same n p q e =
-    test-agree (test-any n p (λ i. test-self)) (test-any n q (λ i. test-self))
-    (λ r. (r .0, r .1, sym (e (r .0) (r .1)) ∙ r .2))
-    (λ r. (r .0, r .1, e (r .0) (r .1) ∙ r .2))
-
-all-same : (n : ℕ) (p q : ℕ → Bool) → ((i : ℕ) → i < n → p i ≡ q i) → all n p ≡ all n q
-all-same n p q e =
-    test-agree (test-all n p (λ i. test-self)) (test-all n q (λ i. test-self))
-    (λ f i h. sym (e i h) ∙ f i h)
-    (λ f i h. e i h ∙ f i h)
 
 -- the isolation test of a clique of k members
 module _ (G : Graph) (loopless : Loopless G) (S : VertexSet) (C : Clique G S) where

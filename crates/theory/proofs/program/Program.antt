@@ -18,7 +18,7 @@ use Rattle.model.specs.Listing.{recordOf, rules}
 use Rattle.model.specs.Calls.{refuseTable, refuseSettings, refusePage, PageReply}
 use Rattle.model.specs.Demand.{allSteps, allGroups, SomeFinished, Demand3}
 use Rattle.model.specs.Text.{numberOf, TextReply}
-use Rattle.model.specs.Program.{Words, wrong, chosen, Verdict, refusal, listing, bounded, three, settingsOf, printed, printedPages, held, endLine, refusedLine, reading, byReading, byWords, programVerdict, PrintsAt, Prints}
+use Rattle.model.specs.Program.{Words, wrong, chosen, Verdict, refusal, listing, bounded, three, settingsOfWords, printed, printedPages, held, endLine, refusedLine, reading, byReading, byWords, programVerdict, PrintsAt, Prints}
 use Rattle.theory.proofs.walk.Ends.{walk-ends, length-once}
 use Rattle.theory.proofs.walk.Walk.{records-append}
 use Rattle.theory.proofs.calls.Pages.{Chain, chain-demand, table-lawful}
@@ -45,8 +45,8 @@ three-passed (some x) none c = omega arith
 three-passed (some x) (some y) none = omega arith
 three-passed (some x) (some y) (some z) = bounded-passed _ _ refl
 
-words-passed : (words : List (List ℕ)) → Passed (settingsOf words)
-unfolding settingsOf
+words-passed : (words : List (List ℕ)) → Passed (settingsOfWords words)
+unfolding settingsOfWords
 words-passed [] = omega arith
 words-passed (a ∷ []) = omega arith
 words-passed (a ∷ b ∷ []) = omega arith
@@ -78,15 +78,15 @@ words-listable (chosen s) text h =
 -- so for any words and text
 pub verdict-listable : (words : List (List ℕ)) (text : List ℕ) → Listable (programVerdict words text)
 unfolding programVerdict
-verdict-listable words text = words-listable (settingsOf words) text (words-passed words)
+verdict-listable words text = words-listable (settingsOfWords words) text (words-passed words)
 
 -- words come first: their refusal is all that is printed, whatever the text
-pub words-refused : (words : List (List ℕ)) (text : List ℕ) (k : ℕ) → settingsOf words ≡ wrong k → Prints words text (refusedLine k 0)
+pub words-refused : (words : List (List ℕ)) (text : List ℕ) (k : ℕ) → settingsOfWords words ≡ wrong k → Prints words text (refusedLine k 0)
 unfolding programVerdict byWords PrintsAt
 words-refused words text k e = subst⁻¹ (λ (w : Words). PrintsAt (byWords w text) (refusedLine k 0)) e refl
 
 -- then 41, a text of more than 65,536 bytes
-pub long-refused : (words : List (List ℕ)) (text : List ℕ) (s : Settings) → settingsOf words ≡ chosen s → 65536 < length text
+pub long-refused : (words : List (List ℕ)) (text : List ℕ) (s : Settings) → settingsOfWords words ≡ chosen s → 65536 < length text
     → Prints words text (refusedLine 41 0)
 unfolding programVerdict byWords PrintsAt
 long-refused words text s e h =
@@ -99,7 +99,7 @@ reading-refused zero s r d = absurd (d refl)
 reading-refused (suc k) s r d = refl
 
 -- then the text
-pub text-refused : (words : List (List ℕ)) (text : List ℕ) (s : Settings) → settingsOf words ≡ chosen s → length text ≤ 65536
+pub text-refused : (words : List (List ℕ)) (text : List ℕ) (s : Settings) → settingsOfWords words ≡ chosen s → length text ≤ 65536
     → reading text .refused ≢ 0 → Prints words text (refusedLine (reading text .refused) (reading text .line))
 unfolding programVerdict byWords PrintsAt
 text-refused words text s e h d =
@@ -108,7 +108,7 @@ text-refused words text s e h d =
 
 -- a wrong count of words is `refused 32 0`
 pub wrong-count : (words : List (List ℕ)) (text : List ℕ) → length words ≢ 3 → Prints words text (refusedLine 32 0)
-unfolding programVerdict settingsOf byWords PrintsAt
+unfolding programVerdict settingsOfWords byWords PrintsAt
 wrong-count [] text d = refl
 wrong-count (a ∷ []) text d = refl
 wrong-count (a ∷ b ∷ []) text d = refl

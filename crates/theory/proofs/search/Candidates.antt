@@ -12,7 +12,7 @@ use lib.Seq.{take-suc}
 use Rattle.model.specs.Graph.{Graph, degree}
 use Rattle.model.specs.Groups.{VertexSet, with-vertex}
 use Rattle.model.specs.Meaning.{Clique}
-use Rattle.theory.specs.Search.{Loopless, Symmetric, Joins, Tally, joinedAll, Candidates}
+use Rattle.theory.specs.Search.{Loopless, Symmetric, JoinsAll, Tally, joinedAll, Candidates}
 use Rattle.theory.proofs.basics.Tests.{Test, test-and, test-self, fails}
 use Rattle.theory.proofs.graph.Cliques.{with-test, same-vertex, joins-new, joins-clique, common-test}
 use Rattle.theory.proofs.graph.Degrees.{tally-add}
@@ -68,7 +68,7 @@ pub record Ready (G : Graph) (T : VertexSet) (added : List ℕ) (k sum least lar
   pub clique : Clique G T
   pub tally : Tally G T k sum least largest
   pub vertex : (i : ℕ) → i < length vs → getD vs i 0 < G .size
-  pub tested : (i : ℕ) → i < length vs → Test (joinedAll G (getD vs i 0) added) (Joins G T (getD vs i 0))
+  pub tested : (i : ℕ) → i < length vs → Test (joinedAll G (getD vs i 0) added) (JoinsAll G T (getD vs i 0))
 
 -- it holds at the start, with nothing added
 pub ready-start : (G : Graph) (S : VertexSet) (k sum least largest : ℕ) (vs : List ℕ)
@@ -98,7 +98,7 @@ module _ (G : Graph) (T : VertexSet) (added : List ℕ) (k sum least largest : �
   first-vertex = r .vertex zero (omega arith)
 
   -- joined to those added is joined to every member
-  pub first-tested : Test (joinedAll G v added) (Joins G T v)
+  pub first-tested : Test (joinedAll G v added) (JoinsAll G T v)
   first-tested = r .tested zero (omega arith)
 
   -- with the first candidate added, where it is joined to those added so far
@@ -113,14 +113,14 @@ module _ (G : Graph) (T : VertexSet) (added : List ℕ) (k sum least largest : �
         tested = λ i h. tested-more (getD vs i 0) (r .tested (suc i) (omega arith));
       }
     where
-      tested-more : (w : ℕ) → Test (joinedAll G w added) (Joins G T w) → Test (joinedAll G w (added ++ (v ∷ []))) (Joins G (with-vertex v T) w)
+      tested-more : (w : ℕ) → Test (joinedAll G w added) (JoinsAll G T w) → Test (joinedAll G w (added ++ (v ∷ []))) (JoinsAll G (with-vertex v T) w)
       tested-more w t = (λ e. there (both .0 (sym (joinedAll-push G w added v) ∙ e)), λ g. joinedAll-push G w added v ∙ both .1 (back g))
         where
-          both : Test (joinedAll G w added && G .joined w v) (Joins G T w × (G .joined w v ≡ true))
+          both : Test (joinedAll G w added && G .joined w v) (JoinsAll G T w × (G .joined w v ≡ true))
           both = test-and t test-self
 
-          there : Joins G T w × (G .joined w v ≡ true) → Joins G (with-vertex v T) w
+          there : JoinsAll G T w × (G .joined w v ≡ true) → JoinsAll G (with-vertex v T) w
           there p u hu = ⊎-elim (λ e. ap (λ (x : ℕ). G .joined w x) e ∙ p .1) (λ e. p .0 u (hu .0, e)) (with-test v T u .0 (hu .1))
 
-          back : Joins G (with-vertex v T) w → Joins G T w × (G .joined w v ≡ true)
+          back : JoinsAll G (with-vertex v T) w → JoinsAll G T w × (G .joined w v ≡ true)
           back g = (λ u hu. g u (hu .0, with-test v T u .1 (inr (hu .1))), g v (first-vertex, same-vertex v T))

@@ -9,7 +9,7 @@ use native.Mathlib.Omega.{arith}
 use Rattle.model.specs.Graph.{Graph, degree}
 use Rattle.model.specs.Groups.{Factor, VertexSet, isolated, larger, with-vertex, isolatedClique, someLarger, rival}
 use Rattle.model.specs.Meaning.{In, Clique, Isolated, IsolatedClique, Larger}
-use Rattle.theory.specs.Search.{Loopless, Symmetric, Joins, Tally, isolatedBy, joinedAll, findLarger, Listed, Candidates}
+use Rattle.theory.specs.Search.{Loopless, Symmetric, JoinsAll, Tally, isolatedBy, joinedAll, findLarger, Listed, Candidates}
 use Rattle.theory.proofs.basics.Tests.{Test, test-agree, test-and, test-or, test-self, passes-or-fails}
 use Rattle.theory.proofs.graph.Meaning.{isolated-test, larger-test, isolated-same, rivals, rivals-test}
 use Rattle.theory.proofs.graph.Cliques.{with-test, same-vertex, joins-new, joins-larger, further-joins, further-common}
@@ -49,7 +49,7 @@ module _ (G : Graph) (loopless : Loopless G) (symmetric : Symmetric G) (notion :
     vertex : v < G .size
     vertex = first-vertex G T added k sum least largest v vs ready
 
-    joins : Test (joinedAll G v added) (Joins G T v)
+    joins : Test (joinedAll G v added) (JoinsAll G T v)
     joins = first-tested G T added k sum least largest v vs ready
 
     here : Bool
@@ -58,11 +58,11 @@ module _ (G : Graph) (loopless : Loopless G) (symmetric : Symmetric G) (notion :
     deeper : Bool
     deeper = findLarger G notion c (added ++ (v ∷ [])) (k + 1) (sum + degree G v) (min least (degree G v)) (max largest (degree G v)) vs
 
-    ready-more : Joins G T v → Ready G more (added ++ (v ∷ [])) (k + 1) (sum + degree G v) (min least (degree G v)) (max largest (degree G v)) vs
+    ready-more : JoinsAll G T v → Ready G more (added ++ (v ∷ [])) (k + 1) (sum + degree G v) (min least (degree G v)) (max largest (degree G v)) vs
     unfolding more
     ready-more j = ready-add G T added k sum least largest v vs ready loopless symmetric (joins .1 j)
 
-    here-test : Joins G T v → Test here (Isolated G notion c more)
+    here-test : JoinsAll G T v → Test here (Isolated G notion c more)
     unfolding here
     here-test j = (
       λ e. isolated-test G notion c more .0 (same ∙ e),
@@ -72,7 +72,7 @@ module _ (G : Graph) (loopless : Loopless G) (symmetric : Symmetric G) (notion :
         same : isolated G notion c more ≡ here
         same = isolated-tally G loopless more (ready-more j .clique) notion c _ _ _ _ (ready-more j .tally)
 
-    deeper-test : Joins G T v → Test deeper (Beyond G notion c more vs)
+    deeper-test : JoinsAll G T v → Test deeper (Beyond G notion c more vs)
     unfolding Finds deeper
     deeper-test j = ih more (added ++ (v ∷ [])) _ _ _ _ (ready-more j)
 
@@ -91,7 +91,7 @@ module _ (G : Graph) (loopless : Loopless G) (symmetric : Symmetric G) (notion :
     head-listed w e = (zero, omega arith, sym e)
 
     -- each way in which the search succeeds gives a larger set
-    by-here : Joins G T v → Isolated G notion c more → Beyond G notion c T (v ∷ vs)
+    by-here : JoinsAll G T v → Isolated G notion c more → Beyond G notion c T (v ∷ vs)
     unfolding more
     by-here j i =
         record {
@@ -101,7 +101,7 @@ module _ (G : Graph) (loopless : Loopless G) (symmetric : Symmetric G) (notion :
           passes = record { clique = ready-more j .clique; isolated = i };
         }
 
-    by-deeper : Joins G T v → Beyond G notion c more vs → Beyond G notion c T (v ∷ vs)
+    by-deeper : JoinsAll G T v → Beyond G notion c more vs → Beyond G notion c T (v ∷ vs)
     unfolding more
     by-deeper j b =
         record {
@@ -174,7 +174,7 @@ module _ (G : Graph) (loopless : Loopless G) (symmetric : Symmetric G) (notion :
     finds-back : Beyond G notion c T (v ∷ vs) → ((joinedAll G v added ≡ true) × ((here ≡ true) ⊎ (deeper ≡ true))) ⊎ (findLarger G notion c added k sum least largest vs ≡ true)
     finds-back b = go (passes-or-fails (b .set v)) (passes-or-fails (T v))
       where
-        add : b .set v ≡ true → Joins G T v → (larger G (b .set) more ≡ true) ⊎ (larger G (b .set) more ≡ false) → (here ≡ true) ⊎ (deeper ≡ true)
+        add : b .set v ≡ true → JoinsAll G T v → (larger G (b .set) more ≡ true) ⊎ (larger G (b .set) more ≡ false) → (here ≡ true) ⊎ (deeper ≡ true)
         add e j (inl p) = inr (deeper-test j .1 (still-larger b (larger-test G (b .set) more .0 p)))
         add e j (inr p) =
             inl

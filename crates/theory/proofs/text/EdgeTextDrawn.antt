@@ -6,7 +6,7 @@ use mathlib.Core.Logic.{_⊎_, inl, inr, ⊎-elim}
 use mathlib.Core.List.{List, [], _∷_, _++_, append-assoc, List·Memᴰ, List·Memᴰ·head, List·Memᴰ·tail, List·Memᴰ·not-nil, List·Memᴰ·cases-cons, List·Memᴰ·append-cases, List·Memᴰ·eq-of-singleton, Memᴰ·append-right}
 use native.Mathlib.Omega.{arith}
 use lib.ListN.{getD, drop}
-use Rattle.model.specs.EdgeText.{Line, comment, problem, edge, edges, Joins, Ends, Drawn, Passed}
+use Rattle.model.specs.EdgeText.{Line, comment, problem, edge, edges, HasPair, Ends, Drawn, Passed}
 use Rattle.theory.proofs.text.EdgeTextLines.{cons-not-nil}
 use Rattle.theory.proofs.text.EdgeTextSpelling.{letterOf}
 
@@ -95,7 +95,7 @@ comments-edgeless xs h n m u v d =
     ⊎-elim (λ a. comment-not-edge u v (h (edge u v) a)) (λ a. edge-not-problem u v n m (List·Memᴰ·eq-of-singleton a)) (List·Memᴰ·append-cases xs d)
 
 -- comments and a p line join no pair
-pub comments-joinless : (xs : List Line) → Comments xs → (n m u v : ℕ) → Joins (xs ++ (problem n m ∷ [])) u v → ⊥
+pub comments-joinless : (xs : List Line) → Comments xs → (n m u v : ℕ) → HasPair (xs ++ (problem n m ∷ [])) u v → ⊥
 comments-joinless xs h n m u v (inl d) = comments-edgeless xs h n m u v d
 comments-joinless xs h n m u v (inr d) = comments-edgeless xs h n m v u d
 
@@ -142,7 +142,7 @@ module _ (room n m : ℕ) (xs : List Line) (d : Drawn room n m xs) where
 
   -- one more line, which is no p line, and whose pair is new
   pub drawn-more : (x : Line) → ((a b : ℕ) → problem a b ≡ x → ⊥) → ((u v : ℕ) → edge u v ≡ x → Ends n u v)
-      → ((u v : ℕ) → edge u v ≡ x → Joins xs u v → ⊥) → Drawn room n m (xs ++ (x ∷ []))
+      → ((u v : ℕ) → edge u v ≡ x → HasPair xs u v → ⊥) → Drawn room n m (xs ++ (x ∷ []))
   drawn-more x no-problem in-range is-new =
       record {
         comments = d .comments;
@@ -156,7 +156,7 @@ module _ (room n m : ℕ) (xs : List Line) (d : Drawn room n m xs) where
         once = λ front rest u v e j.
             ⊎-elim
             (λ r. d .once front (r .0) u v (r .1) j)
-            (λ r. is-new u v (sym (r .1)) (subst (λ (l : List Line). Joins l u v) (sym (r .0)) j))
+            (λ r. is-new u v (sym (r .1)) (subst (λ (l : List Line). HasPair l u v) (sym (r .0)) j))
             (last-or-place xs x front rest (edge u v) e);
       }
 

@@ -7,7 +7,7 @@ use mathlib.Core.List.{List}
 use native.Mathlib.Omega.{arith}
 use lib.ListN.{getD, drop}
 use Rattle.model.specs.Fault.{FirstFault, NoFault}
-use Rattle.model.specs.EdgeText.{Letter, Headed, Line, comment, problem, edge, Spells, Joins, Ends, Passed, OutOfRange, lineFaults}
+use Rattle.model.specs.EdgeText.{Letter, Headed, Line, comment, problem, edge, Spells, HasPair, Ends, Passed, OutOfRange, lineFaults}
 use Rattle.theory.proofs.calls.Fault.{none-of}
 use Rattle.theory.proofs.text.EdgeTextSpelling.{letter-first, spells-letter, says-one}
 use Rattle.theory.proofs.text.EdgeTextDrawn.{problem-first, edge-first, edge-second}
@@ -138,7 +138,7 @@ module _ (room : ℕ) (xs : List Line) (l : List ℕ) where
       not-out n one h a b c t p o = h (subst (λ (k : ℕ). OutOfRange k u v) (one a p) (same-pair (OutOfRange a) b c t o))
 
       -- a new pair of two vertices has none
-      pub edge-faultless : (n : ℕ) → Passed xs n → ((a : ℕ) → Passed xs a → a ≡ n) → Ends n u v → (Joins xs u v → ⊥) → NoFault (lineFaults room xs l)
+      pub edge-faultless : (n : ℕ) → Passed xs n → ((a : ℕ) → Passed xs a → a ≡ n) → Ends n u v → (HasPair xs u v → ⊥) → NoFault (lineFaults room xs l)
       edge-faultless n has one h new =
           none-of (lineFaults room xs l)
           (λ f. f (inr (inr (inr e))))
@@ -149,7 +149,7 @@ module _ (room : ℕ) (xs : List Line) (l : List ℕ) where
           (λ g. no-problem 101 (g .0) (g .1) c (omega arith) (g .2))
           (λ g. not-out n one (in-range n u v h) (g .0) (g .1) (g .2) (g .3) (g .4) (g .5))
           (λ g. h .differ (same-pair (λ (a b : ℕ). a ≡ b) (g .0) (g .1) (g .2) (g .3)))
-          (λ g. new (same-pair (Joins xs) (g .0) (g .1) (g .2) (g .3)))
+          (λ g. new (same-pair (HasPair xs) (g .0) (g .1) (g .2) (g .3)))
         where
           c : getD l 0 0 ≡ 101
           c = letter-first 101 l e

@@ -15,7 +15,7 @@ use Rattle.model.specs.Graph.{onVertices, byTable}
 use Rattle.model.specs.Calls.{refuseTable}
 use Rattle.model.specs.Faults.{tableFaults}
 use Rattle.model.specs.Text.{TextReply, readText}
-use Rattle.model.specs.EdgeText.{Line, edge, Joins, Ends, Table, EdgeText}
+use Rattle.model.specs.EdgeText.{Line, edge, HasPair, Ends, Table, EdgeText}
 use Rattle.theory.proofs.basics.Tests.{Test, test-and, test-lt, test-self}
 use Rattle.theory.proofs.graph.Table.{joined-at}
 use Rattle.theory.proofs.calls.Fault.{none-of}
@@ -24,21 +24,21 @@ use Rattle.theory.proofs.text.EdgeTextTable.{Cell, cell-of, joins-or-no
 use Rattle.theory.proofs.text.EdgeText.{accepted-reply, accepted-iff}
 
 module _ (n : ℕ) (xs : List Line) (t : List ℕ) (a : Table n xs t) (ends : (u v : ℕ) → List·Memᴰ (edge u v) xs → Ends n u v) where
-  pair-ends : (u v : ℕ) → Joins xs u v → (u ≤ n) × (v ≤ n) × (u ≡ v → ⊥)
+  pair-ends : (u v : ℕ) → HasPair xs u v → (u ≤ n) × (v ≤ n) × (u ≡ v → ⊥)
   pair-ends u v (inl m) = let e = ends u v m in (e .u-to, e .v-to, e .differ)
   pair-ends u v (inr m) = let e = ends v u m in (e .v-to, e .u-to, λ q. e .differ (sym q))
 
   -- two vertices are joined exactly where some e line has their pair
-  pub joined-test : (u v : ℕ) → Test (byTable n t .joined u v) (Joins xs (suc u) (suc v))
+  pub joined-test : (u v : ℕ) → Test (byTable n t .joined u v) (HasPair xs (suc u) (suc v))
   unfolding byTable onVertices
   joined-test u v = (there, back)
     where
-      there : (ltb u n && ltb v n && eqb (getD t (u * n + v) 0) 1) ≡ true → Joins xs (suc u) (suc v)
+      there : (ltb u n && ltb v n && eqb (getD t (u * n + v) 0) 1) ≡ true → HasPair xs (suc u) (suc v)
       there e =
           let h = test-and (test-and (test-lt u n) (test-lt v n)) (test-self {a = eqb (getD t (u * n + v) 0) 1}) .0 e in
           byte-test n xs t a u v (h .0 .0) (h .0 .1) .0 (h .1)
 
-      back : Joins xs (suc u) (suc v) → byTable n t .joined u v ≡ true
+      back : HasPair xs (suc u) (suc v) → byTable n t .joined u v ≡ true
       back j =
           let h = pair-ends (suc u) (suc v) j in
           joined-at n t u (h .0) v (h .1) ∙ byte-test n xs t a u v (h .0) (h .1) .1 j
@@ -47,7 +47,7 @@ module _ (n : ℕ) (xs : List Line) (t : List ℕ) (a : Table n xs t) (ends : (u
   byte-small : (i : ℕ) → i < length t → (getD t i 0 ≡ 0) ⊎ (getD t i 0 ≡ 1)
   byte-small i h = at (cell-of n n i (subst (λ (k : ℕ). i < k) (a .size) h))
     where
-      go : (u v : ℕ) → u < n → v < n → Joins xs (suc u) (suc v) ⊎ (Joins xs (suc u) (suc v) → ⊥) → (getD t (u * n + v) 0 ≡ 0) ⊎ (getD t (u * n + v) 0 ≡ 1)
+      go : (u v : ℕ) → u < n → v < n → HasPair xs (suc u) (suc v) ⊎ (HasPair xs (suc u) (suc v) → ⊥) → (getD t (u * n + v) 0 ≡ 0) ⊎ (getD t (u * n + v) 0 ≡ 1)
       go u v hu hv (inl j) = inr (a .joined u v hu hv j)
       go u v hu hv (inr f) = inl (a .apart u v hu hv f)
 
@@ -62,7 +62,7 @@ module _ (n : ℕ) (xs : List Line) (t : List ℕ) (a : Table n xs t) (ends : (u
   mirrored : (u v : ℕ) → u < n → v < n → getD t (u * n + v) 0 ≡ getD t (v * n + u) 0
   mirrored u v hu hv = go (joins-or-not xs (suc u) (suc v))
     where
-      go : Joins xs (suc u) (suc v) ⊎ (Joins xs (suc u) (suc v) → ⊥) → getD t (u * n + v) 0 ≡ getD t (v * n + u) 0
+      go : HasPair xs (suc u) (suc v) ⊎ (HasPair xs (suc u) (suc v) → ⊥) → getD t (u * n + v) 0 ≡ getD t (v * n + u) 0
       go (inl j) = a .joined u v hu hv j ∙ sym (a .joined v u hv hu (joins-swap xs (suc u) (suc v) j))
       go (inr f) = a .apart u v hu hv f ∙ sym (a .apart v u hv hu (λ j. f (joins-swap xs (suc v) (suc u) j)))
 
@@ -83,7 +83,7 @@ read-graph-accepted room text n m t g = table-accepted n (g .said) t (g .table) 
 
 -- vertices are joined exactly where the text joins them
 pub read-graph-joined : (room : ℕ) (text : List ℕ) (n m : ℕ) (t : List ℕ) (g : EdgeText room text n m t) (u v : ℕ)
-    → (byTable n t .joined u v ≡ true) ↔ Joins (g .said) (suc u) (suc v)
+    → (byTable n t .joined u v ≡ true) ↔ HasPair (g .said) (suc u) (suc v)
 read-graph-joined room text n m t g u v = joined-test n (g .said) t (g .table) (g .drawn .ends) u v
 
 -- a text is the text of one graph

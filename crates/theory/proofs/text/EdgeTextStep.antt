@@ -11,7 +11,7 @@ use lib.Dec.{ltb, eqb}
 use borrow.Author.Tests.{ltb-true, ltb-false, eqb-true, eqb-false}
 use Rattle.model.specs.Text.{fieldsOf, Reading, Step, bad, next, fault, pLine, joinPair, eLine, pFields, eFields, lineStep}
 use Rattle.model.specs.Fault.{FirstFault, NoFault}
-use Rattle.model.specs.EdgeText.{Letter, Line, comment, problem, edge, Spells, edges, Joins, Ends, Drawn, Table, Passed, OutOfRange, lineFaults}
+use Rattle.model.specs.EdgeText.{Letter, Line, comment, problem, edge, Spells, edges, HasPair, Ends, Drawn, Table, Passed, OutOfRange, lineFaults}
 use Rattle.theory.proofs.basics.Tests.{Test, test-or, test-lt, test-eq}
 use Rattle.theory.proofs.text.EdgeTextSpelling.{letter-first, Kind, of-none, of-comment, of-problem, of-edge, kind, edge-step, edge-view, problem-step, problem-view}
 use Rattle.theory.proofs.text.EdgeTextFaults.{comment-faultless, few-vertices, problem-first-at, problem-faultless, edge-first-at, edge-pair-at, not-out-of-range, not-out, same-pair, edge-faultless}
@@ -145,19 +145,19 @@ module _ (room : ℕ) (xs : List Line) (l : List ℕ) where
         v-below : v - 1 < r .vertices
         v-below = let p = h .v-from in let q = h .v-to in omega arith
 
-        repeated-test : Test (repeatedBy r u v) (Joins xs u v)
+        repeated-test : Test (repeatedBy r u v) (HasPair xs u v)
         repeated-test =
-            subst₂ (λ (a b : ℕ). Test (repeatedBy r u v) (Joins xs a b)) u-is v-is
+            subst₂ (λ (a b : ℕ). Test (repeatedBy r u v) (HasPair xs a b)) u-is v-is
             (byte-test (r .vertices) xs (r .table) (g .table) (u - 1) (v - 1) u-below v-below)
 
-        joined-going : (Joins xs u v → ⊥) → Going room (xs ++ (edge u v ∷ [])) (joinedBy r u v)
+        joined-going : (HasPair xs u v → ⊥) → Going room (xs ++ (edge u v ∷ [])) (joinedBy r u v)
         joined-going new =
             record {
               passed = refl;
               drawn = drawn-more room (r .vertices) (r .stated) xs (g .drawn) (edge u v)
                   (λ a b q. edge-not-problem u v a b (sym q))
                   (λ a b q. subst₂ (Ends (r .vertices)) (sym (edge-first a b u v q)) (sym (edge-second a b u v q)) h)
-                  (λ a b q j. new (subst₂ (Joins xs) (edge-first a b u v q) (edge-second a b u v q) j));
+                  (λ a b q j. new (subst₂ (HasPair xs) (edge-first a b u v q) (edge-second a b u v q) j));
               count = let q = edges-append xs (edge u v ∷ []) in let c = g .count in omega arith;
               table = subst₂ (λ (a b : ℕ). Table (r .vertices) (xs ++ (edge a b ∷ [])) (joinPair (r .vertices) (u - 1) (v - 1) (r .table))) u-is v-is
                   (table-joins (r .vertices) xs (r .table) (g .table) (u - 1) (v - 1) u-below v-below);
@@ -193,7 +193,7 @@ module _ (room : ℕ) (xs : List Line) (l : List ℕ) where
               )
           go false false false ea eb ec =
               let h = not-out-of-range (r .vertices) u v (in-test ea) (eqb-false u v eb) in
-              let new : Joins xs u v → ⊥ = λ j. false≢true (sym ec ∙ repeated-test h .1 j) in
+              let new : HasPair xs u v → ⊥ = λ j. false≢true (sym ec ∙ repeated-test h .1 j) in
               (edge u v, s, edge-faultless room xs l e u v s (r .vertices) (has-problem room xs r g) (one-problem room xs r g) h new, inr (joined-going h new))
 
   -- a comment changes nothing

@@ -12,7 +12,7 @@ use lib.Seq.{getD-set-same, getD-set-other, ext-getD}
 use lib.Dec.{ltb, eqb}
 use borrow.Author.Tests.{ltb-true, ltb-false, eqb-true, eqb-false, eq-eqb}
 use Rattle.model.specs.Text.{joinPair}
-use Rattle.model.specs.EdgeText.{Line, comment, problem, edge, Joins, Table}
+use Rattle.model.specs.EdgeText.{Line, comment, problem, edge, HasPair, Table}
 use Rattle.theory.proofs.basics.Tests.{Test, trichotomy}
 use Rattle.theory.proofs.graph.Table.{row-end}
 use Rattle.theory.proofs.text.EdgeTextDrawn.{comment-not-edge, edge-not-problem, edge-first, edge-second}
@@ -78,27 +78,27 @@ edge-in u v (x ∷ xs) = go (edge-is u v x) (edge-in u v xs)
     go (inr f) (inr g) = inr (λ m. ⊎-elim f g (List·Memᴰ·cases-cons m))
 
 -- the lines join a pair or not
-pub joins-or-not : (xs : List Line) (u v : ℕ) → Joins xs u v ⊎ (Joins xs u v → ⊥)
+pub joins-or-not : (xs : List Line) (u v : ℕ) → HasPair xs u v ⊎ (HasPair xs u v → ⊥)
 joins-or-not xs u v = go (edge-in u v xs) (edge-in v u xs)
   where
     go : List·Memᴰ (edge u v) xs ⊎ (List·Memᴰ (edge u v) xs → ⊥) → List·Memᴰ (edge v u) xs ⊎ (List·Memᴰ (edge v u) xs → ⊥)
-        → Joins xs u v ⊎ (Joins xs u v → ⊥)
+        → HasPair xs u v ⊎ (HasPair xs u v → ⊥)
     go (inl m) r = inl (inl m)
     go (inr f) (inl m) = inl (inr m)
     go (inr f) (inr g) = inr (λ j. ⊎-elim f g j)
 
 -- a pair is joined in both directions
-pub joins-swap : (xs : List Line) (u v : ℕ) → Joins xs u v → Joins xs v u
+pub joins-swap : (xs : List Line) (u v : ℕ) → HasPair xs u v → HasPair xs v u
 joins-swap xs u v (inl m) = inr m
 joins-swap xs u v (inr m) = inl m
 
 -- what stood in the lines still does
-pub joins-more : (xs ys : List Line) (u v : ℕ) → Joins xs u v → Joins (xs ++ ys) u v
+pub joins-more : (xs ys : List Line) (u v : ℕ) → HasPair xs u v → HasPair (xs ++ ys) u v
 joins-more xs ys u v (inl m) = inl (Memᴰ·append-left ys m)
 joins-more xs ys u v (inr m) = inr (Memᴰ·append-left ys m)
 
 -- one more line joins its own pair, in both directions, and no other
-pub joins-last : (xs : List Line) (x : Line) (u v : ℕ) → Joins (xs ++ (x ∷ [])) u v → Joins xs u v ⊎ (edge u v ≡ x) ⊎ (edge v u ≡ x)
+pub joins-last : (xs : List Line) (x : Line) (u v : ℕ) → HasPair (xs ++ (x ∷ [])) u v → HasPair xs u v ⊎ (edge u v ≡ x) ⊎ (edge v u ≡ x)
 joins-last xs x u v (inl m) = ⊎-elim (λ a. inl (inl a)) (λ a. inr (inl (List·Memᴰ·eq-of-singleton a))) (List·Memᴰ·append-cases xs m)
 joins-last xs x u v (inr m) = ⊎-elim (λ a. inl (inr a)) (λ a. inr (inr (List·Memᴰ·eq-of-singleton a))) (List·Memᴰ·append-cases xs m)
 
@@ -106,7 +106,7 @@ joins-last xs x u v (inr m) = ⊎-elim (λ a. inl (inr a)) (λ a. inr (inr (List
 
 module _ (n : ℕ) where
   -- without an edge it is all 0
-  pub table-none : (xs : List Line) → ((u v : ℕ) → Joins xs u v → ⊥) → Table n xs (replicate (n * n) 0)
+  pub table-none : (xs : List Line) → ((u v : ℕ) → HasPair xs u v → ⊥) → Table n xs (replicate (n * n) 0)
   table-none xs h =
       record {
         size = length-replicate {A = ℕ} (n * n) 0;
@@ -123,7 +123,7 @@ module _ (n : ℕ) where
         apart = λ u v hu hv f. a .apart u v hu hv (λ j. f (joins-more xs (x ∷ []) (suc u) (suc v) j));
       }
     where
-      back : (u v : ℕ) → Joins xs u v ⊎ (edge u v ≡ x) ⊎ (edge v u ≡ x) → Joins xs u v
+      back : (u v : ℕ) → HasPair xs u v ⊎ (edge u v ≡ x) ⊎ (edge v u ≡ x) → HasPair xs u v
       back u v (inl j) = j
       back u v (inr (inl e)) = absurd (h u v e)
       back u v (inr (inr e)) = absurd (h v u e)
@@ -170,7 +170,7 @@ module _ (n : ℕ) where
             ap₂ (λ (p q : ℕ). p * n + q) (suc-inj (edge-first (suc c) (suc d) (suc x) (suc y) e)) (suc-inj (edge-second (suc c) (suc d) (suc x) (suc y) e))
 
         here : (c d : ℕ) → c < n → d < n
-            → Joins xs (suc c) (suc d) ⊎ (edge (suc c) (suc d) ≡ edge (suc u) (suc v)) ⊎ (edge (suc d) (suc c) ≡ edge (suc u) (suc v))
+            → HasPair xs (suc c) (suc d) ⊎ (edge (suc c) (suc d) ≡ edge (suc u) (suc v)) ⊎ (edge (suc d) (suc c) ≡ edge (suc u) (suc v))
             → getD (set (set t (u * n + v) 1) (v * n + u) 1) (c * n + d) 0 ≡ 1
         here c d hc hd (inl j) = both c d hc hd (inl (a .joined c d hc hd j))
         here c d hc hd (inr (inl e)) = both c d hc hd (inr (inl (at c d u v e)))
@@ -179,10 +179,10 @@ module _ (n : ℕ) where
             (inr (inr (ap₂ (λ (p q : ℕ). p * n + q) (suc-inj (edge-second (suc d) (suc c) (suc u) (suc v) e)) (suc-inj (edge-first (suc d) (suc c) (suc u) (suc v) e)))))
 
     -- the byte of a pair is 1 exactly where the lines join it
-    pub byte-test : (u v : ℕ) → u < n → v < n → Test (eqb (getD t (u * n + v) 0) 1) (Joins xs (suc u) (suc v))
+    pub byte-test : (u v : ℕ) → u < n → v < n → Test (eqb (getD t (u * n + v) 0) 1) (HasPair xs (suc u) (suc v))
     byte-test u v hu hv = (there (joins-or-not xs (suc u) (suc v)), λ j. eq-eqb (getD t (u * n + v) 0) 1 (a .joined u v hu hv j))
       where
-        there : Joins xs (suc u) (suc v) ⊎ (Joins xs (suc u) (suc v) → ⊥) → eqb (getD t (u * n + v) 0) 1 ≡ true → Joins xs (suc u) (suc v)
+        there : HasPair xs (suc u) (suc v) ⊎ (HasPair xs (suc u) (suc v) → ⊥) → eqb (getD t (u * n + v) 0) 1 ≡ true → HasPair xs (suc u) (suc v)
         there (inl j) e = j
         there (inr f) e =
             let p = eqb-true (getD t (u * n + v) 0) 1 e in
@@ -193,7 +193,7 @@ module _ (n : ℕ) where
     pub table-one : (s : List ℕ) → Table n xs s → t ≡ s
     table-one s b = ext-getD 0 t s (a .size ∙ sym (b .size)) (λ i h. at i (cell-of n n i (subst (λ (k : ℕ). i < k) (a .size) h)))
       where
-        go : (u v : ℕ) → u < n → v < n → Joins xs (suc u) (suc v) ⊎ (Joins xs (suc u) (suc v) → ⊥) → getD t (u * n + v) 0 ≡ getD s (u * n + v) 0
+        go : (u v : ℕ) → u < n → v < n → HasPair xs (suc u) (suc v) ⊎ (HasPair xs (suc u) (suc v) → ⊥) → getD t (u * n + v) 0 ≡ getD s (u * n + v) 0
         go u v hu hv (inl j) = a .joined u v hu hv j ∙ sym (b .joined u v hu hv j)
         go u v hu hv (inr f) = a .apart u v hu hv f ∙ sym (b .apart u v hu hv f)
 

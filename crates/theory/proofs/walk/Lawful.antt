@@ -12,7 +12,7 @@ use Rattle.model.specs.Graph.{Graph, rankOf, vertexAt}
 use Rattle.model.specs.Groups.{Factor, Settings, outside, qualifies}
 use Rattle.model.specs.Meaning.{In, Under, Clique, IsolatedClique}
 use Rattle.model.specs.Walk.{Position, has}
-use Rattle.model.specs.Listing.{is, adjacent, pivot, apart, lost, dead, takenSet, rules}
+use Rattle.model.specs.Listing.{is, adjacent, pivot, apart, leftNeighbours, dead, takenSet, rules}
 use Rattle.theory.proofs.basics.Tests.{Test, test-and, test-or, test-not, test-self, test-fails, test-lt, test-any, fails, trichotomy, in-length}
 use Rattle.theory.proofs.basics.Counting.{count-inject, count-sub, least-passes, least-first}
 use Rattle.theory.proofs.graph.Ranks.{vertex-at, rank-degree}
@@ -43,9 +43,9 @@ module _ (G : Graph) (p : Position) where
       test-any (G .size) _ (λ r. test-any (G .size) _ (λ s. test-and (test-and (test-and (test-lt r s) test-self) test-self) test-fails))
 
   -- what `dead` tests: that, or something taken and at least c neighbours of the pivot left
-  pub dead-test : (c : Factor) → Test (dead G c p) ((apart G p ≡ true) ⊎ ((has 1 p ≡ true) × (Under c 1 (lost G p) → ⊥)))
+  pub dead-test : (c : Factor) → Test (dead G c p) ((apart G p ≡ true) ⊎ ((has 1 p ≡ true) × (Under c 1 (leftNeighbours G p (pivot G p)) → ⊥)))
   unfolding dead
-  dead-test c = test-or test-self (test-and test-self (test-not (under-test c 1 (lost G p))))
+  dead-test c = test-or test-self (test-and test-self (test-not (under-test c 1 (leftNeighbours G p (pivot G p)))))
 
   dead-has : (c : Factor) → dead G c p ≡ true → has 1 p ≡ true
   dead-has c e =
@@ -98,8 +98,8 @@ module _ (G : Graph) (p q : Position) (fit : Fit (G .size) p) (cm : Completes p 
             absurd (true≢false (sym (eq-eqb (getD p (pivot G q) 0) 1 e) ∙ least-first (G .size) (is 1 p) (pivot G q) l))
 
     -- its left neighbours only grow in number
-    lost-stays : lost G p ≤ lost G q
-    unfolding lost
+    lost-stays : leftNeighbours G p (pivot G p) ≤ leftNeighbours G q (pivot G q)
+    unfolding leftNeighbours
     lost-stays =
         count-sub (G .size) _ _
         (λ r h e.
@@ -174,8 +174,8 @@ module _ (G : Graph) (loopless : (u : ℕ) → u < G .size → G .joined u u ≡
               absurd (true≢false (sym (eq-eqb (getD p (rankOf G u) 0) 1 e) ∙ least-first (G .size) (is 1 p) (rankOf G u) l))
 
       -- the neighbours of the pivot that are left are outside
-      lost-outside : lost G p ≤ outside G (takenSet G q) (vertexAt G (pivot G p))
-      unfolding lost outside adjacent
+      lost-outside : leftNeighbours G p (pivot G p) ≤ outside G (takenSet G q) (vertexAt G (pivot G p))
+      unfolding leftNeighbours outside adjacent
       lost-outside =
           count-inject (G .size) (G .size) _ _ (vertexAt G)
           (λ r h e.
@@ -183,7 +183,7 @@ module _ (G : Graph) (loopless : (u : ℕ) → u < G .size → G .joined u u ≡
           (vertex-at G r h .0, test-and {a = G .joined (vertexAt G (pivot G p)) (vertexAt G r)} test-self test-fails .1 (both .1, left-out r h (both .0))))
           (λ i j hi hj a b z. sym (vertex-at G i hi .1) ∙ ap (rankOf G) z ∙ vertex-at G j hj .1)
 
-      lost-final : (notion : ℕ) (c : Factor) → (Under c 1 (lost G p) → ⊥) → IsolatedClique G notion c (takenSet G q) → ⊥
+      lost-final : (notion : ℕ) (c : Factor) → (Under c 1 (leftNeighbours G p (pivot G p)) → ⊥) → IsolatedClique G notion c (takenSet G q) → ⊥
       lost-final notion c l i =
           not-isolated G loopless (takenSet G q) (i .clique) notion c
           (λ u h under.

@@ -13,32 +13,19 @@ use Rattle.model.specs.Walk.{Position, Rules, only, has, fresh, finished, advan
 use Rattle.model.specs.Calls.{refusePosition}
 use Rattle.theory.proofs.basics.Tests.{Test, test-or, test-eq, fails}
 use Rattle.theory.proofs.calls.DeadPosition.{in-length}
-use Rattle.theory.proofs.walk.Remaining.{retreat-deep, retreat-here}
+use Rattle.theory.proofs.walk.Remaining.{has-test, retreat-deep, retreat-here}
 use Rattle.theory.proofs.walk.Walk.{Lawful, after-add}
 use Rattle.theory.proofs.walk.Accepted.{walk-accepted}
 use Rattle.theory.proofs.walk.Visited.{visited-iff}
 
 -- ---- tests on a position by its ranks
 
-pub has-in : (x : ℕ) (p : Position) → Test (has x p) ((r : ℕ) × (r < length p) × (getD p r 0 ≡ x))
-unfolding has
-has-in x [] = (λ e. absurd (false≢true e), λ r. absurd (not-suc-le-zero (r .1)))
-has-in x (y ∷ p) = (λ e. there (test-or (test-eq x y) (has-in x p) .0 e), λ r. test-or (test-eq x y) (has-in x p) .1 (back (r .0) (r .1) (r .2)))
-  where
-    there : (x ≡ y) ⊎ ((r : ℕ) × (r < length p) × (getD p r 0 ≡ x)) → (r : ℕ) × (r < suc (length p)) × (getD (y ∷ p) r 0 ≡ x)
-    there (inl e) = (0, omega arith, sym e)
-    there (inr t) = let l = t .1 in (suc (t .0), omega arith, t .2)
-
-    back : (r : ℕ) → r < suc (length p) → getD (y ∷ p) r 0 ≡ x → (x ≡ y) ⊎ ((r : ℕ) × (r < length p) × (getD p r 0 ≡ x))
-    back zero l e = inl (sym e)
-    back (suc r) l e = inr (r, omega arith, e)
-
 -- a rank that is x, and no rank that is x
 pub has-found : (x : ℕ) (p : Position) (r : ℕ) → r < length p → getD p r 0 ≡ x → has x p ≡ true
-has-found x p r h e = has-in x p .1 (r, h, e)
+has-found x p r h e = has-test x p .1 (r, h, e)
 
 pub has-none : (x : ℕ) (p : Position) → ((r : ℕ) → r < length p → getD p r 0 ≢ x) → has x p ≡ false
-has-none x p f = fails (has x p) (λ e. let t = has-in x p .0 e in f (t .0) (t .1) (t .2))
+has-none x p f = fails (has x p) (λ e. let t = has-test x p .0 e in f (t .0) (t .1) (t .2))
 
 -- finished is neither open nor taken anywhere
 pub finished-is : (p : Position) → ((r : ℕ) → getD p r 0 ≤ 2) → finished p ≡ (not (has 0 p) && not (has 1 p))

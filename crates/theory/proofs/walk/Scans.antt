@@ -16,23 +16,14 @@ use Rattle.model.specs.Below.{bit, any, count, least}
 use Rattle.model.specs.Graph.{Graph}
 use Rattle.model.specs.Groups.{Factor, within}
 use Rattle.model.specs.Walk.{Position, has}
-use Rattle.model.specs.Listing.{is, adjacent, pivot, apart, lost, dead}
+use Rattle.model.specs.Listing.{is, adjacent, pivot, apart, leftNeighbours, dead}
 use Rattle.model.specs.Calls.{gap, reopened}
-use Rattle.theory.proofs.basics.Tests.{Test, test-or, test-eq, fails, trichotomy}
-use Rattle.theory.proofs.basics.Counting.{least-passes, least-first}
+use Rattle.theory.proofs.basics.Tests.{Test, test-or, test-eq, fails, trichotomy, same-test}
+use Rattle.theory.proofs.basics.Counting.{least-is, least-passes, least-first}
 use Rattle.theory.proofs.walk.Lawful.{apart-test}
 use Rattle.theory.proofs.calls.DeadPosition.{test-map, in-length, not-different, gap-test}
 
 -- ---- the least number that passes, and a count that stops early
-
--- the least number that passes is k, where what is below k fails, and k passes or is the end
-pub least-at : (n : ℕ) (p : ℕ → Bool) (k : ℕ) → k ≤ n → ((i : ℕ) → i < k → p i ≡ false) → (k < n → p k ≡ true) → least n p ≡ k
-unfolding least
-least-at zero p k h f g = omega arith
-least-at (suc n) p zero h f g = ap (λ (b : Bool). cond b zero (suc (least n (λ i. p (suc i))))) (g (omega arith))
-least-at (suc n) p (suc k) h f g =
-    ap (λ (b : Bool). cond b zero (suc (least n (λ i. p (suc i))))) (f zero (omega arith))
-    ∙ ap suc (least-at n (λ i. p (suc i)) k (omega arith) (λ i l. f (suc i) (omega arith)) (λ l. g (omega arith)))
 
 -- it passes, or is the end
 pub least-holds : (n : ℕ) (p : ℕ → Bool) → least n p < n → p (least n p) ≡ true
@@ -68,15 +59,6 @@ count-past m (suc n) p h f =
     let b = count-past m n p (omega arith) (λ i a b. f i a (omega arith)) in
     omega arith)
     (eq-or-lt-of-le h)
-
--- two tests of one thing agree
-pub same-test : {a b : Bool} {A : Type 0} → Test a A → Test b A → a ≡ b
-same-test {a} {b} {A} s t = go a b s t
-  where
-    go : (a b : Bool) → Test a A → Test b A → a ≡ b
-    go true b s t = sym (t .1 (s .0 refl))
-    go false true s t = absurd (false≢true (s .1 (t .0 refl)))
-    go false false s t = refl
 
 -- ---- the ranks of a position
 
@@ -156,8 +138,8 @@ module _ (G : Graph) (c : Factor) (p q : Position) (e : (r : ℕ) → getD p r 0
   unfolding apart
   apart-same i = any (G .size) (λ r. any (G .size) (λ s. ltb r s && eqb (e r i) 1 && eqb (e s i) 1 && not (adjacent G r s)))
 
-  lost-same : lost G p ≡ lost G q
-  unfolding lost pivot
+  lost-same : leftNeighbours G p (pivot G p) ≡ leftNeighbours G q (pivot G q)
+  unfolding leftNeighbours pivot
   lost-same i = count (G .size) (λ r. eqb (e r i) 2 && adjacent G (least (G .size) (λ s. eqb (e s i) 1)) r)
 
   taken-same : has 1 p ≡ has 1 q
@@ -180,6 +162,12 @@ nothing-live G c = rw none
     none : apart G [] ≡ false
     none = fails (apart G []) (λ e. false≢true (apart-test G [] .0 e .2 .2 .0 .1))
 
+-- no rank past the end of p is left
+pub left-within : (G : Graph) (p : Position) → length p ≤ G .size → (r : ℕ) → leftNeighbours G p r ≡ count (length p) (λ k. is 2 p k && adjacent G r k)
+unfolding leftNeighbours
+left-within G p short r =
+    count-past (length p) (G .size) _ short (λ k a b. ap (λ (t : Bool). t && adjacent G r k) (past-not 2 p k (λ z. omega arith) a))
+
 -- it is dead where two taken ranks are not adjacent; otherwise not where nothing is taken, and else by the left neighbours of the pivot
 module _ (G : Graph) (c : Factor) (p : Position) where
   pub dead-apart : apart G p ≡ true → dead G c p ≡ true
@@ -199,22 +187,12 @@ module _ (G : Graph) (c : Factor) (p : Position) where
           let m = least-passes (length p) (is 1 p) (r .0) l (eq-eqb (getD p (r .0) 0) 1 (r .1)) .0 in
           omega arith)
 
-  -- the left ranks of p that are adjacent to rank r
-  abbrev left-count : ℕ → ℕ
-  left-count r = count (length p) (λ k. is 2 p k && adjacent G r k)
-
   module _ (short : length p ≤ G .size) (taken : least (length p) (is 1 p) < length p) where
     pivot-is : pivot G p ≡ least (length p) (is 1 p)
     unfolding pivot
-    pivot-is = least-at (G .size) (is 1 p) (least (length p) (is 1 p)) (omega arith) (least-first (length p) (is 1 p)) (λ _. least-holds (length p) (is 1 p) taken)
+    pivot-is = least-is (G .size) (is 1 p) (least (length p) (is 1 p)) (omega arith) (least-first (length p) (is 1 p)) (λ _. least-holds (length p) (is 1 p) taken)
 
-    lost-is : lost G p ≡ left-count (least (length p) (is 1 p))
-    unfolding lost
-    lost-is =
-        ap (λ (r : ℕ). count (G .size) (λ k. is 2 p k && adjacent G r k)) pivot-is
-        ∙ count-past (length p) (G .size) _ short (λ k a b. ap (λ (t : Bool). t && adjacent G (least (length p) (is 1 p)) k) (past-not 2 p k (λ z. omega arith) a))
-
-    pub dead-lost : apart G p ≡ false → dead G c p ≡ not (within c 1 (left-count (least (length p) (is 1 p))))
+    pub dead-lost : apart G p ≡ false → dead G c p ≡ not (within c 1 (leftNeighbours G p (least (length p) (is 1 p))))
     unfolding dead
     dead-lost a =
-        rw (a, taken-test p .1 (least (length p) (is 1 p), eqb-true _ 1 (least-holds (length p) (is 1 p) taken)), lost-is)
+        rw (a, taken-test p .1 (least (length p) (is 1 p), eqb-true _ 1 (least-holds (length p) (is 1 p) taken)), pivot-is)

@@ -4,7 +4,7 @@ use mathlib.Core.Path.{refl, _∙_}
 use native.Mathlib.Omega.{arith}
 use lib.ListN.{length-set}
 use Rattle.model.specs.Walk.{retreat}
-use Rattle.graph.proofs.Work.{table-size}
+use Rattle.graph.proofs.Ranks.{table-size}
 use Rattle.walk.proofs.Opened.{opened}
 use Rattle.walk.proofs.Leaving.{highest, left-decides, left-exit, left-vertex, left-sum, left-rest, left-last}
 use borrow.Author.Needs.{needs}

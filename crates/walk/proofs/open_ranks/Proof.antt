@@ -3,14 +3,14 @@
 use Prim.Native.Nat.{ℕ, _-_, _≤_}
 use mathlib.Core.Path.{_≡_, subst}
 use native.Mathlib.Omega.{arith}
-use Rattle.walk.specs.Walk.{Cleared}
+use Rattle.walk.specs.Walk.{RanksOpened}
 use Rattle.walk.proofs.Opened.{cleared-none, cleared-more}
 use borrow.Author.Needs.{needs}
 use Rattle.walk.proofs.open_ranks.Statement.{statement}
 use Rattle.walk.proofs.open_ranks.Tie as tie
 
 abbrev Inv-loop : tie.InvT-loop
-Inv-loop position₀ a e i₀ position i = (a ≤ i) × (i ≤ e) × Cleared a i position₀ position
+Inv-loop position₀ a e i₀ position i = (a ≤ i) × (i ≤ e) × RanksOpened a i position₀ position
 
 abbrev μ-loop : tie.MeasureT-loop
 μ-loop position₀ a e i₀ position i = e - i
@@ -39,7 +39,7 @@ returns : tie.Need-returns Inv-loop μ-loop
 returns c =
     let l = c .before .loop in
     let e : l .i ≡ c .before .before .args .e = omega arith in
-    subst (λ (k : ℕ). Cleared (c .before .before .args .a) k (c .before .before .args .position .now) (l .position)) e (l .inv .2)
+    subst (λ (k : ℕ). RanksOpened (c .before .before .args .a) k (c .before .before .args .position .now) (l .position)) e (l .inv .2)
 
 pub open-ranks-spec : {M : Type 1} → statement M
 open-ranks-spec =

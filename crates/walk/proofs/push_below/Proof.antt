@@ -10,9 +10,9 @@ use Rattle.model.specs.Below.{passing}
 use Rattle.model.specs.Graph.{byTable}
 use Rattle.model.specs.Listing.{adjacent}
 use Rattle.theory.proofs.basics.Passing.{passing-none, passing-hit, passing-miss}
-use Rattle.graph.proofs.Work.{table-size}
-use Rattle.walk.specs.State.{part}
-use Rattle.walk.proofs.Parts.{part-push}
+use Rattle.graph.proofs.Ranks.{table-size}
+use Rattle.theory.specs.Parts.{part}
+use Rattle.theory.proofs.basics.Parts.{part-push}
 use Rattle.walk.proofs.Reading.{order-low, read-adjacent}
 use borrow.Author.Needs.{needs}
 use Rattle.walk.proofs.push_below.Statement.{statement}

@@ -7,7 +7,7 @@ use native.Mathlib.Omega.{arith}
 use lib.ListN.{length, getD, List·getD-eq-default}
 use Rattle.model.specs.Graph.{byTable}
 use Rattle.model.specs.Walk.{Position}
-use Rattle.graph.proofs.Work.{table-size}
+use Rattle.graph.proofs.Ranks.{table-size}
 use Rattle.walk.specs.State.{Stands}
 use Rattle.walk.proofs.Opened.{opened, fresh-stands, opened-decides, opened-same, gapless, bytes-most}
 use borrow.Author.Needs.{needs}

@@ -6,7 +6,7 @@ use native.Mathlib.Omega.{arith}
 use lib.ListN.{length}
 use Rattle.model.specs.Walk.{advance}
 use Rattle.theory.proofs.walk.Moves.{advance-is}
-use Rattle.graph.proofs.Work.{table-size}
+use Rattle.graph.proofs.Ranks.{table-size}
 use Rattle.walk.specs.Walk.{Decides}
 use Rattle.walk.proofs.Opened.{set-decides}
 use borrow.Author.Needs.{needs}

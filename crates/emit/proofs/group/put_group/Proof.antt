@@ -4,7 +4,7 @@ use Prim.Native.Nat.{_+_}
 use mathlib.Core.Path.{_≡_, _∙_}
 use mathlib.Core.List.{_∷_}
 use native.Mathlib.Omega.{arith}
-use Rattle.walk.specs.State.{part}
+use Rattle.theory.specs.Parts.{part}
 use Rattle.emit.proofs.Groups.{tail-at}
 use borrow.Author.Needs.{needs}
 use Rattle.emit.proofs.group.put_group.Statement.{statement}

@@ -7,8 +7,9 @@ use native.Mathlib.Omega.{arith}
 use native.Mathlib.Numerals.{add-one}
 use lib.ListN.{length, set, getD, length-set}
 use lib.Seq.{paste, paste-zero, paste-suc}
-use Rattle.walk.specs.State.{part}
-use Rattle.emit.proofs.Groups.{part-length, part-at, group-put}
+use Rattle.theory.specs.Parts.{part}
+use Rattle.theory.proofs.basics.Parts.{part-length, part-at}
+use Rattle.emit.proofs.Groups.{group-put}
 use borrow.Author.Needs.{needs}
 use Rattle.emit.proofs.group.write_group.Statement.{statement}
 use Rattle.emit.proofs.group.write_group.Tie as tie

@@ -1,4 +1,4 @@
--- Parts of the work slice, and what a function leaves of it.
+-- Parts of a lent slice, and what a function leaves of it.
 -- Assumes nothing.
 use Prim.Native.Nat.{ℕ, _+_, _≤_, _<_}
 use mathlib.Core.Path.{_≡_}
@@ -27,3 +27,8 @@ pub record Written (a n : ℕ) (p : ℕ → Bool) (before after : List ℕ) (k :
   pub listed : part after a k ≡ passing n p
   pub few : k ≤ n
   pub kept : Kept a (a + n) before after
+
+-- a loop has written the k entries of the list l from entry a on, and every entry outside a to b - 1 is as it was
+pub record Listed (a b : ℕ) (l before after : List ℕ) (k : ℕ) : Type 0 where
+  pub listed : part after a k ≡ l
+  pub kept : Kept a b before after
