@@ -6,9 +6,6 @@ use mathlib.Core.Logic.{_≢_}
 use mathlib.Core.List.{List, [], _∷_, map}
 use native.Mathlib.Omega.{arith}
 use lib.ListN.{length}
-use contract.Lifetimes.{Lfts}
-use borrow.Fn.Kinds.{Dens, resT, endedOf}
-use denote.Triple.Clauses.{AtExit}
 use Rattle.model.specs.Graph.{byTable}
 use Rattle.model.specs.Groups.{Settings, settings, VertexSet}
 use Rattle.model.specs.Meaning.{Qualifies}
@@ -20,8 +17,6 @@ use Rattle.model.specs.Demand.{joinedOutput, SomeFinished, Demand3}
 use Rattle.theory.proofs.calls.Bounds.{page-bounds}
 use Rattle.theory.proofs.calls.Pages.{call-progress, demand3}
 use Rattle.page.specs.Answer.{PageReplies}
-use Rattle.page.proofs.page.Reads as page
-use Rattle.page.proofs.page.Kinds as page-kinds
 use Rattle.demand.specs.Demand.{MadeCall, Promised, reported, Calls, EachCall, Every, PageDemand, PageDemanded}
 
 -- ---- a call of `page::page` and its reply in document 01
@@ -118,54 +113,3 @@ demand n t s valid cs h =
           subst (λ (rs : List PageReply). SomeFinished rs → joinedOutput rs ≡ [] → (S : VertexSet) → Qualifies (byTable n t) s S → ⊥) e (d .none-qualifies);
       each = every-call t s (fresh n) cs h;
     }
-
--- ---- the compiled function
-
--- A call of the compiled function, in the words of the contract that the checker itself reads from the source of `page::page` and proves: any arguments,
--- answer and memory at exit that this contract allows. The function asks for nothing, so any arguments may be settings.
-pub record Compiled : Type 0 where
-  pub lifetimes : Lfts 4
-  pub arguments : Dens lifetimes page-kinds.ps
-  pub answer : resT page-kinds.r lifetimes .Denot
-  pub at-exit : AtExit (endedOf 4 page-kinds.ps page-kinds.r) lifetimes
-  pub promised : page.Post lifetimes arguments answer at-exit
-
--- its values: table, position, output, work, n, notion, kind, c, budget
-abbrev pub callOf : Compiled → MadeCall
-callOf k =
-    let a = k .arguments in
-    record {
-      table = a .0 .now;
-      position = a .1 .0 .now;
-      output = a .1 .1 .0 .now;
-      work = a .1 .1 .1 .0 .now;
-      size = a .1 .1 .1 .1 .0;
-      notion = a .1 .1 .1 .1 .1 .0;
-      kind = a .1 .1 .1 .1 .1 .1 .0;
-      factor = a .1 .1 .1 .1 .1 .1 .1 .0;
-      budget = a .1 .1 .1 .1 .1 .1 .1 .1 .0;
-      answer = k .answer;
-      position-left = k .at-exit .1 .0 .now;
-      output-left = k .at-exit .1 .1 .0 .now;
-      work-left = k .at-exit .1 .1 .1 .0 .now;
-    }
-
--- the function's own contract is what `Promised` asks of a call: nothing is restated
-pub promised : (k : Compiled) → Promised (callOf k)
-promised k = k .promised
-
--- the first call is handed p, each later one the position as the call before it left it; and every accepted call brings the table t and the settings s
-abbrev pub Chained : List ℕ → Settings → Position → List Compiled → Type 0
-Chained t s p [] = Unit {0}
-Chained t s p (k ∷ ks) =
-    (callOf k .position ≡ p)
-    × (callOf k .answer .refusal ≡ 0 → (callOf k .table ≡ t) × (settings (callOf k .notion) (callOf k .kind) (callOf k .factor) ≡ s))
-    × Chained t s (callOf k .position-left) ks
-
-chained-calls : (t : List ℕ) (s : Settings) (p : Position) (ks : List Compiled) → Chained t s p ks → Calls t s p (map callOf ks)
-chained-calls t s p [] h = tt
-chained-calls t s p (k ∷ ks) h = (record { promised = promised k; handed = h .0; agrees = h .1 }, chained-calls t s (callOf k .position-left) ks (h .2))
-
--- Demand 3 of the compiled `page::page`: of every graph's table, one that is not refused, all settings and any list of its calls that begins at fresh.
-pub compiled-demand : (n : ℕ) (t : List ℕ) (s : Settings) → refuseTable n t 0 ≡ 0 → (ks : List Compiled) → Chained t s (fresh n) ks → PageDemand n t s (map callOf ks)
-compiled-demand n t s valid ks h = demand n t s valid (map callOf ks) (chained-calls t s (fresh n) ks h)

@@ -1,3 +1,4 @@
 -- What demands 2 and 3 say of the functions of crates page, query and dimacs.
 pub mod Demand
 pub mod Membership
+pub mod Compiled

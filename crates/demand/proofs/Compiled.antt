@@ -1,0 +1,63 @@
+-- Demands 2 and 3 hold of the compiled functions `page::page`, `query::set_query` and `dimacs::read_text`, and of the exported ones of crate `ffi` that C
+-- and Rust link. Nothing of a contract is restated: `promised` is the contract that the checker proved.
+-- Assumes nothing.
+use Prim.Native.Nat.{ℕ}
+use mathlib.Core.List.{List, [], _∷_, map}
+use borrow.Fn.Kinds.{Out}
+use Rattle.model.specs.Groups.{Settings}
+use Rattle.model.specs.Walk.{Position, fresh}
+use Rattle.page.proofs.page.Reads as page
+use Rattle.page.proofs.page.Kinds as page-kinds
+use Rattle.query.proofs.set_query.Reads as query
+use Rattle.dimacs.proofs.read_text.Reads as reader
+use Rattle.ffi.proofs.isolated_page.Reads as exported-page
+use Rattle.ffi.proofs.isolated_set_query.Reads as exported-query
+use Rattle.ffi.proofs.isolated_read_text.Reads as exported-reader
+use Rattle.demand.specs.Demand.{Promised, Calls}
+use Rattle.demand.specs.Compiled.{CompiledPage, callOf, Chained, PageHolds, ListHolds, QueryHolds, ReaderHolds}
+use Rattle.demand.proofs.Demand.{demand}
+use Rattle.demand.proofs.Membership.{query-demand, list-demand, reader-demand}
+
+-- ---- the page call
+
+-- a contract that is what `Promised` asks of a call
+module _ {Post : Out 4 page-kinds.ps page-kinds.r} (promised : (k : CompiledPage Post) → Promised (callOf k)) where
+  chained-calls : (t : List ℕ) (s : Settings) (p : Position) (ks : List (CompiledPage Post)) → Chained t s p ks → Calls t s p (map callOf ks)
+  chained-calls t s p [] h = tt
+  chained-calls t s p (k ∷ ks) h = (record { promised = promised k; handed = h .0; agrees = h .1 }, chained-calls t s (callOf k .position-left) ks (h .2))
+
+-- Demand 3 of `page::page`.
+pub compiled-demand : PageHolds page.Post
+compiled-demand n t s valid ks h = demand n t s valid (map callOf ks) (chained-calls (λ k. k .promised) t s (fresh n) ks h)
+
+-- Demand 3 of `isolated_page`.
+pub exported-demand : PageHolds exported-page.Post
+exported-demand n t s valid ks h = demand n t s valid (map callOf ks) (chained-calls (λ k. k .promised) t s (fresh n) ks h)
+
+-- Demand 2 of the finished list of `page::page`.
+pub compiled-list-demand : ListHolds page.Post
+compiled-list-demand n t s valid ks h = list-demand n t s valid (map callOf ks) (chained-calls (λ k. k .promised) t s (fresh n) ks h)
+
+-- Demand 2 of the finished list of `isolated_page`.
+pub exported-list-demand : ListHolds exported-page.Post
+exported-list-demand n t s valid ks h = list-demand n t s valid (map callOf ks) (chained-calls (λ k. k .promised) t s (fresh n) ks h)
+
+-- ---- the set query
+
+-- Demand 2 of `query::set_query`.
+pub compiled-query-demand : QueryHolds query.Post
+compiled-query-demand k = query-demand _ _ _ _ _ _ _ _ _ (k .promised)
+
+-- Demand 2 of `isolated_set_query`.
+pub exported-query-demand : QueryHolds exported-query.Post
+exported-query-demand k = query-demand _ _ _ _ _ _ _ _ _ (k .promised)
+
+-- ---- the text reader
+
+-- Demand 2 of `dimacs::read_text`.
+pub compiled-reader-demand : ReaderHolds reader.Post
+compiled-reader-demand k = reader-demand _ _ _ _ (k .promised)
+
+-- Demand 2 of `isolated_read_text`.
+pub exported-reader-demand : ReaderHolds exported-reader.Post
+exported-reader-demand k = reader-demand _ _ _ _ (k .promised)

@@ -1,0 +1,102 @@
+-- What demands 2 and 3 say of a compiled function, over its contract as the checker itself reads it from the function's source and proves it: `Post` is
+-- that contract, of the arguments, the answer and the memory at exit.
+-- Assumes nothing.
+use Prim.Native.Nat.{ℕ}
+use mathlib.Core.Path.{_≡_}
+use mathlib.Core.Logic.{_↔_}
+use mathlib.Core.List.{List, [], _∷_, map}
+use contract.Lifetimes.{Lfts}
+use borrow.Fn.Kinds.{PK, RK, Out, Dens, resT, endedOf}
+use denote.Triple.Clauses.{AtExit}
+use Rattle.model.specs.Graph.{byTable}
+use Rattle.model.specs.Groups.{Settings, settings}
+use Rattle.model.specs.Meaning.{Qualifies, Lists}
+use Rattle.model.specs.Walk.{Position, fresh, records}
+use Rattle.model.specs.Listing.{rules}
+use Rattle.model.specs.Calls.{refuseTable, byBytes}
+use Rattle.model.specs.Demand.{joinedOutput, SomeFinished}
+use Rattle.page.proofs.page.Kinds as page-kinds
+use Rattle.query.proofs.set_query.Kinds as query-kinds
+use Rattle.dimacs.proofs.read_text.Kinds as reader-kinds
+use Rattle.demand.specs.Demand.{MadeCall, reported, PageDemand}
+use Rattle.demand.specs.Membership.{TextDemand}
+
+-- A call of a compiled function: any arguments, answer and memory at exit that its contract allows. None of these functions asks for anything, so any
+-- arguments may be given.
+pub record Compiled (m : ℕ) (ps : List (PK m)) (r : RK m) (Post : Out m ps r) : Type 0 where
+  pub lifetimes : Lfts m
+  pub arguments : Dens lifetimes ps
+  pub answer : resT r lifetimes .Denot
+  pub at-exit : AtExit (endedOf m ps r) lifetimes
+  pub promised : Post lifetimes arguments answer at-exit
+
+-- ---- the page call
+
+-- a call of a function with the parameters and the answer of `page::page`
+abbrev pub CompiledPage : Out 4 page-kinds.ps page-kinds.r → Type 0
+CompiledPage Post = Compiled 4 page-kinds.ps page-kinds.r Post
+
+-- its values: table, position, output, work, n, notion, kind, c, budget
+abbrev pub callOf : {Post : Out 4 page-kinds.ps page-kinds.r} → CompiledPage Post → MadeCall
+callOf k =
+    let a = k .arguments in
+    record {
+      table = a .0 .now;
+      position = a .1 .0 .now;
+      output = a .1 .1 .0 .now;
+      work = a .1 .1 .1 .0 .now;
+      size = a .1 .1 .1 .1 .0;
+      notion = a .1 .1 .1 .1 .1 .0;
+      kind = a .1 .1 .1 .1 .1 .1 .0;
+      factor = a .1 .1 .1 .1 .1 .1 .1 .0;
+      budget = a .1 .1 .1 .1 .1 .1 .1 .1 .0;
+      answer = k .answer;
+      position-left = k .at-exit .1 .0 .now;
+      output-left = k .at-exit .1 .1 .0 .now;
+      work-left = k .at-exit .1 .1 .1 .0 .now;
+    }
+
+-- the first call is handed p, each later one the position as the call before it left it; and every accepted call brings the table t and the settings s
+abbrev pub Chained : {Post : Out 4 page-kinds.ps page-kinds.r} → List ℕ → Settings → Position → List (CompiledPage Post) → Type 0
+Chained t s p [] = Unit {0}
+Chained t s p (k ∷ ks) =
+    (callOf k .position ≡ p)
+    × (callOf k .answer .refusal ≡ 0 → (callOf k .table ≡ t) × (settings (callOf k .notion) (callOf k .kind) (callOf k .factor) ≡ s))
+    × Chained t s (callOf k .position-left) ks
+
+-- Demand 3 of a compiled page call: of every graph's table, one that is not refused, all settings and any list of its calls that begins at fresh.
+abbrev pub PageHolds : Out 4 page-kinds.ps page-kinds.r → Type 0
+PageHolds Post =
+    (n : ℕ) (t : List ℕ) (s : Settings) → refuseTable n t 0 ≡ 0 → (ks : List (CompiledPage Post)) → Chained t s (fresh n) ks → PageDemand n t s (map callOf ks)
+
+-- Demand 2, the finished list: once a call has said Finished, the joined output is the records of positions that list the sets that qualify.
+abbrev pub ListHolds : Out 4 page-kinds.ps page-kinds.r → Type 0
+ListHolds Post =
+    (n : ℕ) (t : List ℕ) (s : Settings) → refuseTable n t 0 ≡ 0 → (ks : List (CompiledPage Post)) → Chained t s (fresh n) ks
+    → SomeFinished (map reported (map callOf ks))
+    → (ps : List Position) × (joinedOutput (map reported (map callOf ks)) ≡ records (rules (byTable n t) s) ps) × Lists (byTable n t) s ps
+
+-- ---- the set query
+
+-- Demand 2 of a compiled set query, with the parameters table, set, work, n, notion, kind, c: accepted, it says yes exactly where the set qualifies.
+abbrev pub QueryHolds : Out 3 query-kinds.ps query-kinds.r → Type 0
+QueryHolds Post =
+    (k : Compiled 3 query-kinds.ps query-kinds.r Post) → k .answer .refusal ≡ 0
+    → let table = k .arguments .0 .now in
+    let set = k .arguments .1 .0 .now in
+    let n = k .arguments .1 .1 .1 .0 in
+    let notion = k .arguments .1 .1 .1 .1 .0 in
+    let kind = k .arguments .1 .1 .1 .1 .1 .0 in
+    let c = k .arguments .1 .1 .1 .1 .1 .1 .0 in
+    (k .answer .yes ≡ 1) ↔ Qualifies (byTable n table) (settings notion kind c) (byBytes set)
+
+-- ---- the text reader
+
+-- Demand 2 of a compiled text reader, with the parameters text and table: it reads a text exactly where it is an edge text, and gives its graph.
+abbrev pub ReaderHolds : Out 2 reader-kinds.ps reader-kinds.r → Type 0
+ReaderHolds Post =
+    (k : Compiled 2 reader-kinds.ps reader-kinds.r Post)
+    → let text = k .arguments .0 .now in
+    let table = k .arguments .1 .0 .now in
+    let table-left = k .at-exit .1 .0 .now in
+    TextDemand text table table-left (k .answer)
