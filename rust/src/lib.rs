@@ -21,11 +21,11 @@
 //! ```
 //!
 //! [`Groups`] lists all groups of a graph. Below it stand the three calls of the library: [`page`], which lists as
-//! many groups at a time as its caller likes, [`set_query`] and [`read_text`].
+//! many groups at a time as its caller likes, [`set_query`] and [`read_text`]. [`raw`] declares them as they are exported.
 
-mod calls;
 mod groups;
 mod page;
+pub mod raw;
 mod refusal;
 mod set;
 mod settings;

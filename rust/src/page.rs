@@ -1,6 +1,6 @@
 //! The page call: the walk goes on, and the groups it meets are written.
 
-use crate::calls::isolated_page;
+use crate::raw::isolated_page;
 use crate::{Refusal, Settings};
 
 /// Why a page stopped.

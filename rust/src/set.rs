@@ -1,6 +1,6 @@
 //! The set query: is this set a group?
 
-use crate::calls::isolated_set_query;
+use crate::raw::isolated_set_query;
 use crate::{Refusal, Settings};
 
 /// Says whether a set is a group.

@@ -1,6 +1,6 @@
 //! The text reader: a graph in the DIMACS edge layout.
 
-use crate::calls::isolated_read_text;
+use crate::raw::isolated_read_text;
 use crate::Refusal;
 use std::fmt;
 

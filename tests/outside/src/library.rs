@@ -1,74 +1,9 @@
 //! The library's three calls over guarded memory. What a call was handed and what it left are plain values here.
 
 use crate::lent::Lent;
+use isolated::raw;
 
-#[repr(C)]
-#[derive(Clone, Copy, Debug, Default, PartialEq, Eq)]
-pub struct PageAnswer {
-    pub refusal: u32,
-    pub stop: u32,
-    pub groups: u32,
-    pub steps: u32,
-    pub used: usize,
-    pub wanted: usize,
-}
-
-#[repr(C)]
-#[derive(Clone, Copy, Debug, Default, PartialEq, Eq)]
-pub struct SetAnswer {
-    pub refusal: u32,
-    pub yes: u32,
-}
-
-#[repr(C)]
-#[derive(Clone, Copy, Debug, Default, PartialEq, Eq)]
-pub struct TextAnswer {
-    pub refusal: u32,
-    pub vertices: u32,
-    pub edges: u32,
-    pub line: usize,
-}
-
-mod exported {
-    use super::{PageAnswer, SetAnswer, TextAnswer};
-
-    #[link(name = "ffi", kind = "static")]
-    extern "C" {
-        pub fn isolated_page(
-            table: *const u8,
-            table_length: usize,
-            position: *mut u8,
-            position_length: usize,
-            output: *mut u16,
-            output_length: usize,
-            work: *mut u16,
-            work_length: usize,
-            n: usize,
-            notion: u32,
-            kind: u32,
-            c: u32,
-            budget: u32,
-        ) -> PageAnswer;
-        pub fn isolated_set_query(
-            table: *const u8,
-            table_length: usize,
-            set: *const u8,
-            set_length: usize,
-            work: *mut u16,
-            work_length: usize,
-            n: usize,
-            notion: u32,
-            kind: u32,
-            c: u32,
-        ) -> SetAnswer;
-        pub fn isolated_read_text(
-            text: *const u8,
-            text_length: usize,
-            table: *mut u8,
-            table_length: usize,
-        ) -> TextAnswer;
-    }
-}
+pub use isolated::raw::{PageAnswer, SetAnswer, TextAnswer};
 
 /// The arguments of a page call.
 #[derive(Clone, Debug)]
@@ -101,7 +36,7 @@ pub fn page(request: &PageRequest) -> PageReply {
     let mut work = Lent::new(&request.work);
     // SAFETY: four slices that overlap nowhere, each with its own length.
     let answer = unsafe {
-        exported::isolated_page(
+        raw::isolated_page(
             table.pointer(),
             table.len(),
             position.pointer(),
@@ -152,7 +87,7 @@ pub fn set_query(request: &SetRequest) -> SetReply {
     let mut work = Lent::new(&request.work);
     // SAFETY: three slices that overlap nowhere, each with its own length.
     let answer = unsafe {
-        exported::isolated_set_query(
+        raw::isolated_set_query(
             table.pointer(),
             table.len(),
             set.pointer(),
@@ -183,7 +118,7 @@ pub fn read_text(text: &[u8], table: &[u8]) -> TextReply {
     let mut lent_table = Lent::new(table);
     // SAFETY: two slices that do not overlap, each with its own length.
     let answer = unsafe {
-        exported::isolated_read_text(lent_text.pointer(), lent_text.len(), lent_table.pointer(), lent_table.len())
+        raw::isolated_read_text(lent_text.pointer(), lent_text.len(), lent_table.pointer(), lent_table.len())
     };
     assert!(lent_text.contents("the text") == text, "the text was written");
     TextReply { answer, table: lent_table.contents("the table") }
