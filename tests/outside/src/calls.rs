@@ -1,13 +1,13 @@
 //! What page and set query reply, as document 01 words it: refusals in their order, then the page's five points.
 
 use crate::graph::Graph;
-use crate::groups::{record, FullList};
+use crate::groups::{record, FullList, Settings};
 use crate::library::{PageAnswer, PageReply, PageRequest, SetAnswer, SetReply, SetRequest};
 use crate::walk::{Walk, LEFT, OPEN};
 
 /// "Turned back by the input", numbers 1 to 10; `marks` is the length of the position or the set.
-fn by_input(table: &[u8], n: usize, settings: [u32; 3], marks: usize, work: usize) -> Option<u32> {
-    let [notion, kind, c] = settings;
+fn by_input(table: &[u8], n: usize, settings: Settings, marks: usize, work: usize) -> Option<u32> {
+    let Settings { notion, kind, c } = settings;
     let byte = |u: usize, v: usize| table[u * n + v];
     let tests: [(u32, &dyn Fn() -> bool); 10] = [
         (1, &|| n > 1024),
@@ -40,10 +40,9 @@ fn by_state(walk: &Walk, position: &[u8]) -> Option<u32> {
 
 /// The number that refuses a page call, if any.
 pub fn page_refusal(request: &PageRequest) -> Option<u32> {
-    let settings = [request.notion, request.kind, request.c];
-    by_input(&request.table, request.n, settings, request.position.len(), request.work.len()).or_else(|| {
+    by_input(&request.table, request.n, request.settings, request.position.len(), request.work.len()).or_else(|| {
         let graph = Graph { n: request.n, table: request.table.clone() };
-        by_state(&Walk::new(&graph, request.c), &request.position)
+        by_state(&Walk::new(&graph, request.settings.c), &request.position)
     })
 }
 
@@ -55,7 +54,7 @@ pub fn page(request: &PageRequest, list: &FullList) -> PageReply {
         return PageReply { answer, position, output, work: Some(request.work.clone()) };
     }
     let graph = Graph { n: request.n, table: request.table.clone() };
-    let walk = Walk::new(&graph, request.c);
+    let walk = Walk::new(&graph, request.settings.c);
     let mut answer = PageAnswer::default();
     answer.stop = loop {
         if walk.finished(&position) {
@@ -83,8 +82,7 @@ pub fn page(request: &PageRequest, list: &FullList) -> PageReply {
 
 /// The number that refuses a set query, if any.
 pub fn set_refusal(request: &SetRequest) -> Option<u32> {
-    let settings = [request.notion, request.kind, request.c];
-    by_input(&request.table, request.n, settings, request.set.len(), request.work.len())
+    by_input(&request.table, request.n, request.settings, request.set.len(), request.work.len())
         .or_else(|| request.set.iter().any(|&byte| byte > 1).then_some(11))
 }
 

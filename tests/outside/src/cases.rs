@@ -16,11 +16,20 @@ impl Drop for Running<'_> {
     }
 }
 
-/// Runs a case for each seed from 0 on, or for the one seed that ISOLATED_SEED=NAME:SEED names. A panic prints the
+/// The one case that ISOLATED_SEED=NAME:SEED names.
+fn asked() -> Option<String> {
+    std::env::var("ISOLATED_SEED").ok()
+}
+
+/// Is one case run alone? Then nothing can be said of how often something happens.
+pub fn alone() -> bool {
+    asked().is_some()
+}
+
+/// Runs a case for each seed from 0 on, or for the one seed that is asked for. A panic prints the
 /// seed; the case itself prints its graph.
 pub fn cases(name: &str, count: u64, mut case: impl FnMut(&mut Random)) {
-    let asked = std::env::var("ISOLATED_SEED").ok();
-    let seeds = match asked.as_deref().and_then(|asked| asked.split_once(':')) {
+    let seeds = match asked().as_deref().and_then(|asked| asked.split_once(':')) {
         Some((its, seed)) if its == name => {
             let seed = seed.parse().expect("ISOLATED_SEED is NAME:SEED");
             seed..seed + 1

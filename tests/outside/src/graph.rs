@@ -2,6 +2,11 @@
 
 use std::fmt;
 
+/// Every two vertices of n, the smaller first.
+pub fn pairs(n: usize) -> impl Iterator<Item = (usize, usize)> {
+    (0..n).flat_map(move |u| (u + 1..n).map(move |v| (u, v)))
+}
+
 /// A graph by its table: n × n bytes, row by row, 1 where two vertices are joined.
 #[derive(Clone, PartialEq, Eq)]
 pub struct Graph {
@@ -53,8 +58,7 @@ impl Graph {
     }
 
     pub fn edges(&self) -> Vec<(usize, usize)> {
-        let pairs = (0..self.n).flat_map(|u| (u + 1..self.n).map(move |v| (u, v)));
-        pairs.filter(|&(u, v)| self.joined(u, v)).collect()
+        pairs(self.n).filter(|&(u, v)| self.joined(u, v)).collect()
     }
 }
 

@@ -2,10 +2,12 @@
 
 use crate::cliques::Cliques;
 use crate::graph::Graph;
+use crate::random::Random;
 use std::cmp::Ordering;
 use std::collections::HashSet;
 
-/// A notion (0 min, 1 avg, 2 max), a kind (0 maximal isolated, 1 isolated maximal) and a factor, as plain numbers.
+/// A notion (0 min, 1 avg, 2 max), a kind (0 maximal isolated, 1 isolated maximal) and a factor, as plain numbers:
+/// other numbers may be tried too.
 #[derive(Clone, Copy, Debug, PartialEq, Eq)]
 pub struct Settings {
     pub notion: u32,
@@ -17,6 +19,11 @@ impl Settings {
     /// Every notion and kind with this factor.
     pub fn all(c: u32) -> impl Iterator<Item = Settings> {
         (0..3).flat_map(move |notion| (0..2).map(move |kind| Settings { notion, kind, c }))
+    }
+
+    /// Any notion and kind with this factor.
+    pub fn any(random: &mut Random, c: u32) -> Settings {
+        Settings { notion: random.below(3) as u32, kind: random.below(2) as u32, c }
     }
 }
 

@@ -1,6 +1,9 @@
 //! The library's three calls over guarded memory. What a call was handed and what it left are plain values here.
 
+use crate::graph::Graph;
+use crate::groups::Settings;
 use crate::lent::Lent;
+use crate::random::Random;
 use isolated::raw;
 
 pub use isolated::raw::{PageAnswer, SetAnswer, TextAnswer};
@@ -13,10 +16,17 @@ pub struct PageRequest {
     pub output: Vec<u16>,
     pub work: Vec<u16>,
     pub n: usize,
-    pub notion: u32,
-    pub kind: u32,
-    pub c: u32,
+    pub settings: Settings,
     pub budget: u32,
+}
+
+impl PageRequest {
+    /// A call from the fresh position with an output of so many entries; output and work slice hold anything.
+    pub fn fresh(random: &mut Random, graph: &Graph, settings: Settings, entries: usize, budget: u32) -> PageRequest {
+        let n = graph.n;
+        let (output, work) = (random.entries(entries), random.entries(8 * n));
+        PageRequest { table: graph.table.clone(), position: vec![0; n], output, work, n, settings, budget }
+    }
 }
 
 /// A page call's answer and the memory it left. The work slice stands here only where the call was refused: after
@@ -46,9 +56,9 @@ pub fn page(request: &PageRequest) -> PageReply {
             work.pointer(),
             work.len(),
             request.n,
-            request.notion,
-            request.kind,
-            request.c,
+            request.settings.notion,
+            request.settings.kind,
+            request.settings.c,
             request.budget,
         )
     };
@@ -69,9 +79,14 @@ pub struct SetRequest {
     pub set: Vec<u8>,
     pub work: Vec<u16>,
     pub n: usize,
-    pub notion: u32,
-    pub kind: u32,
-    pub c: u32,
+    pub settings: Settings,
+}
+
+impl SetRequest {
+    /// A query of a set, one byte a vertex; the work slice holds anything.
+    pub fn of(random: &mut Random, graph: &Graph, settings: Settings, set: Vec<u8>) -> SetRequest {
+        SetRequest { table: graph.table.clone(), set, work: random.entries(8 * graph.n), n: graph.n, settings }
+    }
 }
 
 /// A set query's answer, and the work slice where it was refused.
@@ -95,9 +110,9 @@ pub fn set_query(request: &SetRequest) -> SetReply {
             work.pointer(),
             work.len(),
             request.n,
-            request.notion,
-            request.kind,
-            request.c,
+            request.settings.notion,
+            request.settings.kind,
+            request.settings.c,
         )
     };
     assert!(table.contents("the table") == request.table, "the table was written");

@@ -9,55 +9,15 @@ use outside::random::Random;
 use outside::samples;
 use outside::walk::Walk;
 
-/// Small cliques over shuffled vertices and a few edges between them.
-fn sparse(random: &mut Random, n: usize) -> Graph {
-    let mut graph = Graph::empty(n);
-    let mut vertices: Vec<usize> = (0..n).collect();
-    random.shuffle(&mut vertices);
-    let mut rest = &vertices[..];
-    while !rest.is_empty() {
-        let (block, after) = rest.split_at(random.between(1, 6).min(rest.len()));
-        rest = after;
-        for i in 0..block.len() {
-            for j in 0..i {
-                if random.percent(92) {
-                    graph.join(block[i], block[j]);
-                }
-            }
-        }
-    }
-    for _ in 0..n / 2 {
-        let (u, v) = (random.below(n), random.below(n));
-        if u != v {
-            graph.join(u, v);
-        }
-    }
-    graph
-}
-
-fn request(random: &mut Random, graph: &Graph, settings: Settings, entries: usize, budget: u32) -> PageRequest {
-    PageRequest {
-        table: graph.table.clone(),
-        position: vec![0; graph.n],
-        output: random.entries(entries),
-        work: random.entries(8 * graph.n),
-        n: graph.n,
-        notion: settings.notion,
-        kind: settings.kind,
-        c: settings.c,
-        budget,
-    }
-}
-
 /// The list and the walk's length of a sparse graph, page by page.
 fn whole_list(random: &mut Random, n: usize, c: u32) {
-    let reference = Reference::of(sparse(random, n));
+    let reference = Reference::of(samples::scattered(random, n));
     let (length, passed) = Walk::new(&reference.graph, c).whole();
     for settings in Settings::all(c) {
         let list = reference.full_list(settings);
         assert!(passed.iter().filter(|set| list.has(set)).eq(list.groups.iter()), "the reference's walk");
         let (mut joined, mut steps) = (Vec::new(), 0u64);
-        let mut request = request(random, &reference.graph, settings, 500, 1_000_000);
+        let mut request = PageRequest::fresh(random, &reference.graph, settings, 500, 1_000_000);
         loop {
             let reply = library::page(&request);
             assert_eq!(reply.answer.refusal, 0, "{:?} at {settings:?}", reference.graph);
@@ -99,11 +59,11 @@ fn lists_of_1024_vertices() {
 #[test]
 fn pages_of_1024_vertices() {
     cases("pages_of_1024_vertices", 1, |random| {
-        let reference = Reference::of(sparse(random, 1024));
+        let reference = Reference::of(samples::scattered(random, 1024));
         for c in [1, 3, 1024] {
-            let settings = Settings { notion: random.below(3) as u32, kind: random.below(2) as u32, c };
+            let settings = Settings::any(random, c);
             let list = reference.full_list(settings);
-            let mut at = request(random, &reference.graph, settings, 12, 4000);
+            let mut at = PageRequest::fresh(random, &reference.graph, settings, 12, 4000);
             for _ in 0..4 {
                 let found = library::page(&at);
                 assert_eq!(found, calls::page(&at, &list), "{settings:?} of {:?}", reference.graph);
@@ -117,7 +77,7 @@ fn pages_of_1024_vertices() {
 #[test]
 fn sets_of_1024_vertices() {
     cases("sets_of_1024_vertices", 1, |random| {
-        let reference = Reference::of(sparse(random, 1024));
+        let reference = Reference::of(samples::scattered(random, 1024));
         for settings in [1, 2, 4].into_iter().flat_map(Settings::all) {
             let list = reference.full_list(settings);
             for _ in 0..8 {
@@ -128,15 +88,7 @@ fn sets_of_1024_vertices() {
                 if random.percent(60) {
                     set[random.below(1024)] ^= 1;
                 }
-                let request = SetRequest {
-                    table: reference.graph.table.clone(),
-                    set,
-                    work: random.entries(8 * 1024),
-                    n: 1024,
-                    notion: settings.notion,
-                    kind: settings.kind,
-                    c: settings.c,
-                };
+                let request = SetRequest::of(random, &reference.graph, settings, set);
                 let expected = calls::set_query(&request, &list);
                 assert_eq!(library::set_query(&request), expected, "{settings:?} of {:?}", reference.graph);
             }
@@ -150,7 +102,7 @@ fn the_largest_complete_graph() {
     let mut random = Random::new(7);
     let graph = samples::complete(1024);
     for settings in [1, 1023, 1024].into_iter().flat_map(Settings::all) {
-        let reply = library::page(&request(&mut random, &graph, settings, 1030, 1025));
+        let reply = library::page(&PageRequest::fresh(&mut random, &graph, settings, 1030, 1025));
         let expected = PageAnswer { refusal: 0, stop: 2, groups: 1, steps: 1025, used: 1025, wanted: 0 };
         assert_eq!(reply.answer, expected, "{settings:?}");
         assert_eq!(reply.output[0], 1024);
@@ -158,15 +110,7 @@ fn the_largest_complete_graph() {
         for (missing, yes) in [(0, 1), (1, 0)] {
             let mut set = vec![1; 1024];
             set[..missing].fill(0);
-            let query = SetRequest {
-                table: graph.table.clone(),
-                set,
-                work: random.entries(8 * 1024),
-                n: 1024,
-                notion: settings.notion,
-                kind: settings.kind,
-                c: settings.c,
-            };
+            let query = SetRequest::of(&mut random, &graph, settings, set);
             assert_eq!(library::set_query(&query).answer, SetAnswer { refusal: 0, yes }, "{settings:?}");
         }
     }
@@ -178,12 +122,12 @@ fn the_widest_record() {
     let mut random = Random::new(8);
     let graph = samples::complete(1024);
     let settings = Settings { notion: 2, kind: 0, c: 1 };
-    let short = library::page(&request(&mut random, &graph, settings, 1024, 5000));
+    let short = library::page(&PageRequest::fresh(&mut random, &graph, settings, 1024, 5000));
     assert_eq!(short.answer, PageAnswer { stop: 3, steps: 1024, wanted: 1025, ..PageAnswer::default() });
     assert_eq!(short.position, vec![1; 1024]);
-    let enough = library::page(&request(&mut random, &graph, settings, 1025, 1024));
+    let enough = library::page(&PageRequest::fresh(&mut random, &graph, settings, 1025, 1024));
     assert_eq!(enough.answer, PageAnswer { stop: 2, steps: 1024, ..PageAnswer::default() });
-    let enough = library::page(&request(&mut random, &graph, settings, 1025, 1025));
+    let enough = library::page(&PageRequest::fresh(&mut random, &graph, settings, 1025, 1025));
     assert_eq!(enough.answer, PageAnswer { stop: 2, groups: 1, steps: 1025, used: 1025, ..PageAnswer::default() });
 }
 
@@ -192,7 +136,7 @@ fn the_widest_record() {
 fn refusals_at_large_n() {
     let mut random = Random::new(9);
     let settings = Settings { notion: 1, kind: 1, c: 3 };
-    let over = request(&mut random, &Graph::empty(1025), settings, 5, 5);
+    let over = PageRequest::fresh(&mut random, &Graph::empty(1025), settings, 5, 5);
     assert_eq!(library::page(&over).answer, PageAnswer { refusal: 1, ..PageAnswer::default() });
     let last = 1024 * 1024 - 1;
     let spoiled: [(u32, fn(&mut PageRequest, usize)); 7] = [
@@ -201,11 +145,11 @@ fn refusals_at_large_n() {
         (4, |request, last| request.table[last] = 1),
         (5, |request, last| request.table[last - 1] = 1),
         (9, |request, _| request.position.push(0)),
-        (10, |request, _| drop(request.work.pop())),
+        (10, |request, _| request.work.truncate(8 * 1024 - 1)),
         (21, |request, _| request.position[1023] = 3),
     ];
     for (refusal, spoil) in spoiled {
-        let mut request = request(&mut random, &Graph::empty(1024), settings, 5, 5);
+        let mut request = PageRequest::fresh(&mut random, &Graph::empty(1024), settings, 5, 5);
         spoil(&mut request, last);
         let reply = library::page(&request);
         assert_eq!(reply.answer, PageAnswer { refusal, ..PageAnswer::default() });
@@ -223,12 +167,12 @@ fn huge_values_of_n() {
     let others = [1025, usize::MAX, usize::MAX - 1, usize::MAX / 2, usize::MAX / 8 + 1, (1 << 32) + 2, (1 << 63) + 2];
     for n in shifts.chain(others) {
         for graph in [Graph::empty(0), samples::path(2)] {
-            let mut at = request(&mut random, &graph, settings, 4, 9);
+            let mut at = PageRequest::fresh(&mut random, &graph, settings, 4, 9);
             at.n = n;
             let reply = library::page(&at);
             assert_eq!(reply.answer, PageAnswer { refusal: 1, ..PageAnswer::default() }, "n {n}");
             assert_eq!((reply.position, reply.output), (at.position.clone(), at.output.clone()), "n {n}");
-            let query = SetRequest { table: at.table, set: at.position, work: at.work, n, notion: 0, kind: 0, c: 1 };
+            let query = SetRequest { table: at.table, set: at.position, work: at.work, n, settings };
             assert_eq!(library::set_query(&query).answer, SetAnswer { refusal: 1, yes: 0 }, "n {n}");
         }
     }

@@ -18,17 +18,7 @@ const FACTORS: std::ops::RangeInclusive<u32> = 1..=6;
 fn check_list(random: &mut Random, graph: &Graph, settings: Settings, list: &FullList, length: u64) {
     let entries = list.entries();
     let spare = random.below(3);
-    let request = PageRequest {
-        table: graph.table.clone(),
-        position: vec![0; graph.n],
-        output: random.entries(entries.len() + spare),
-        work: random.entries(8 * graph.n),
-        n: graph.n,
-        notion: settings.notion,
-        kind: settings.kind,
-        c: settings.c,
-        budget: u32::MAX,
-    };
+    let request = PageRequest::fresh(random, graph, settings, entries.len() + spare, u32::MAX);
     let reply = library::page(&request);
     let answer = PageAnswer {
         refusal: 0,
@@ -71,15 +61,8 @@ fn set_to_ask(random: &mut Random, n: usize, list: &FullList) -> Vec<u8> {
 
 fn check_sets(random: &mut Random, graph: &Graph, settings: Settings, list: &FullList, queries: usize) {
     for _ in 0..queries {
-        let request = SetRequest {
-            table: graph.table.clone(),
-            set: set_to_ask(random, graph.n, list),
-            work: random.entries(8 * graph.n),
-            n: graph.n,
-            notion: settings.notion,
-            kind: settings.kind,
-            c: settings.c,
-        };
+        let set = set_to_ask(random, graph.n, list);
+        let request = SetRequest::of(random, graph, settings, set);
         let expected = calls::set_query(&request, list);
         let found = library::set_query(&request);
         assert_eq!(found, expected, "set {:?} of {graph:?} at {settings:?}", request.set);
@@ -140,23 +123,14 @@ fn graphs_with_planted_cliques() {
 fn all_small_graphs() {
     let mut random = Random::new(1);
     for n in 0..=4 {
-        let pairs: Vec<(usize, usize)> = (0..n).flat_map(|u| (u + 1..n).map(move |v| (u, v))).collect();
-        for chosen in 0..1usize << pairs.len() {
-            let edges: Vec<_> = (0..pairs.len()).filter(|i| chosen >> i & 1 == 1).map(|i| pairs[i]).collect();
-            let reference = Reference::of(Graph::of_edges(n, &edges));
-            check_graph(&mut random, reference.graph.clone());
+        for graph in samples::all(n) {
+            let reference = Reference::of(graph.clone());
+            check_graph(&mut random, graph);
             for settings in (1..=4).flat_map(Settings::all) {
                 let list = reference.full_list(settings);
                 for members in 0..1usize << n {
-                    let request = SetRequest {
-                        table: reference.graph.table.clone(),
-                        set: (0..n).map(|v| (members >> v & 1) as u8).collect(),
-                        work: random.entries(8 * n),
-                        n,
-                        notion: settings.notion,
-                        kind: settings.kind,
-                        c: settings.c,
-                    };
+                    let set = (0..n).map(|v| (members >> v & 1) as u8).collect();
+                    let request = SetRequest::of(&mut random, &reference.graph, settings, set);
                     let found = library::set_query(&request);
                     assert_eq!(found, calls::set_query(&request, &list), "{request:?}");
                 }

@@ -3,6 +3,7 @@
 use outside::graph::Graph;
 use outside::groups::{Reference, Settings};
 use outside::library::{self, PageAnswer, PageReply, PageRequest};
+use outside::random::Random;
 use outside::samples;
 
 const MIN: u32 = 0;
@@ -10,17 +11,7 @@ const AVG: u32 = 1;
 const MAX: u32 = 2;
 
 fn request(graph: &Graph, notion: u32, kind: u32, c: u32) -> PageRequest {
-    PageRequest {
-        table: graph.table.clone(),
-        position: vec![0; graph.n],
-        output: vec![7; 100],
-        work: vec![0; 8 * graph.n],
-        n: graph.n,
-        notion,
-        kind,
-        c,
-        budget: u32::MAX,
-    }
+    PageRequest::fresh(&mut Random::new(0), graph, Settings { notion, kind, c }, 100, u32::MAX)
 }
 
 /// The whole list in one call, as entries and steps; the reference must give the same entries.

@@ -2,7 +2,7 @@
 //! calls in between. Each single reply is the reference's, and joined they are the full list.
 
 use outside::calls;
-use outside::cases::cases;
+use outside::cases::{alone, cases};
 use outside::groups::{FullList, Reference, Settings};
 use outside::library::{self, PageReply, PageRequest};
 use outside::random::Random;
@@ -11,7 +11,7 @@ use outside::walk::Walk;
 
 fn some_settings(random: &mut Random) -> Settings {
     let c = *random.pick(&[1, 1, 2, 2, 3, 4, 5, 6, 1024]);
-    Settings { notion: random.below(3) as u32, kind: random.below(2) as u32, c }
+    Settings::any(random, c)
 }
 
 /// The next call of a listing: any budget, output and work slice.
@@ -30,17 +30,10 @@ fn next_call(random: &mut Random, reference: &Reference, settings: Settings, pos
         _ => random.below(6 * n + 8),
     };
     let more = random.below(5);
-    PageRequest {
-        table: reference.graph.table.clone(),
-        position: position.to_vec(),
-        output: random.entries(output),
-        work: random.entries(8 * n + more),
-        n,
-        notion: settings.notion,
-        kind: settings.kind,
-        c: settings.c,
-        budget: budget as u32,
-    }
+    let mut request = PageRequest::fresh(random, &reference.graph, settings, output, budget as u32);
+    request.position = position.to_vec();
+    request.work.extend(random.entries(more));
+    request
 }
 
 /// Spoils a call in anything beside its position; the call is then refused, or accepted where it is still sound.
@@ -52,14 +45,14 @@ fn spoil(random: &mut Random, request: &mut PageRequest) {
         2 if n > 0 => request.table[random.below(n * n)] = 2,
         3 if n > 0 => request.table[random.below(n) * (n + 1)] = 1,
         4 if n > 1 => request.table[n - 1] ^= 1,
-        5 => request.notion = random.between(3, 300) as u32,
-        6 => request.c = *random.pick(&[0, 1025, u32::MAX]),
+        5 => request.settings.notion = random.between(3, 300) as u32,
+        6 => request.settings.c = *random.pick(&[0, 1025, u32::MAX]),
         7 if n > 0 => request.work.truncate(random.below(8 * n)),
         8 => {
             request.n = n + 1;
             request.table = samples::any(random, n + 1).table;
         }
-        _ => request.kind = random.between(2, 300) as u32,
+        _ => request.settings.kind = random.between(2, 300) as u32,
     }
     assert!(calls::page_refusal(request).is_some(), "a spoiled call is refused: {request:?}");
 }
@@ -144,19 +137,15 @@ fn pages_from_any_position() {
             }
         }
     });
-    let alone = std::env::var_os("ISOLATED_SEED").is_some();
-    assert!(alone || accepted > 3000 && refused > 3000, "{accepted} accepted, {refused} refused");
+    assert!(alone() || accepted > 3000 && refused > 3000, "{accepted} accepted, {refused} refused");
 }
 
 /// Every position of bytes 0 to 3 over every graph of three vertices, with small budgets and outputs.
 #[test]
 fn all_positions_of_three_ranks() {
     let mut random = Random::new(2);
-    for chosen in 0..8 {
-        let edges: Vec<_> =
-            [(0, 1), (0, 2), (1, 2)].into_iter().enumerate().filter(|(i, _)| chosen >> i & 1 == 1).collect();
-        let edges: Vec<_> = edges.into_iter().map(|(_, edge)| edge).collect();
-        let reference = Reference::of(outside::graph::Graph::of_edges(3, &edges));
+    for graph in samples::all(3) {
+        let reference = Reference::of(graph);
         for settings in (1..=3).flat_map(Settings::all) {
             let list = reference.full_list(settings);
             for bytes in 0..64u8 {

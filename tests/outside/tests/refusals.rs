@@ -13,30 +13,20 @@ const SET: [u32; 11] = [1, 2, 3, 4, 5, 6, 7, 8, 9, 10, 11];
 
 /// The claw, at a position that the walk comes by, with random settings and memory.
 fn sound_page(random: &mut Random) -> PageRequest {
-    let graph = samples::claw();
-    let output = random.below(9);
-    PageRequest {
-        table: graph.table,
-        position: random.pick(&[[0, 0, 0, 0], [1, 1, 0, 0], [2, 2, 1, 0], [2, 1, 2, 2], [2, 2, 2, 2]]).to_vec(),
-        output: random.entries(output),
-        work: random.entries(32),
-        n: 4,
-        notion: random.below(3) as u32,
-        kind: random.below(2) as u32,
-        c: random.between(1, 5) as u32,
-        budget: random.below(50) as u32,
-    }
+    let (entries, budget) = (random.below(9), random.below(50) as u32);
+    let settings = some_settings(random);
+    let position = random.pick(&[[0, 0, 0, 0], [1, 1, 0, 0], [2, 2, 1, 0], [2, 1, 2, 2], [2, 2, 2, 2]]).to_vec();
+    PageRequest { position, ..PageRequest::fresh(random, &samples::claw(), settings, entries, budget) }
+}
+
+fn some_settings(random: &mut Random) -> Settings {
+    let c = random.between(1, 5) as u32;
+    Settings::any(random, c)
 }
 
 /// Puts the fault of a number into a page call, in one of several ways, and leaves other faults in place.
 fn put_page_fault(random: &mut Random, request: &mut PageRequest, number: u32) {
     match number {
-        1 => request.n = *random.pick(&[1025, 1026, 65536, 1 << 32, (1 << 32) + 4, 1 << 63, usize::MAX]),
-        2 if random.percent(50) => request.table.push(random.below(3) as u8),
-        2 => drop(request.table.pop()),
-        9 if random.percent(50) => request.position.push(random.below(3) as u8),
-        9 => drop(request.position.pop()),
-        10 => request.work.truncate(random.below(32)),
         21 => {
             let place = random.below(request.position.len());
             request.position[place] = random.between(3, 255) as u8;
@@ -53,26 +43,46 @@ fn put_page_fault(random: &mut Random, request: &mut PageRequest, number: u32) {
                 *byte = if *byte > 2 { *byte } else { new };
             }
         }
-        _ => put_common_fault(
-            random,
-            &mut request.table,
-            [&mut request.notion, &mut request.kind, &mut request.c],
-            number,
-        ),
+        _ => {
+            let PageRequest { table, position, work, n, settings, .. } = request;
+            put_common_fault(random, Common { table, marks: position, work, n, settings }, number)
+        }
     }
 }
 
-/// The faults of the table's bytes and of the settings, which page and set query share.
-fn put_common_fault(random: &mut Random, table: &mut [u8], settings: [&mut u32; 3], number: u32) {
-    let [notion, kind, c] = settings;
+/// What page and set query are both lent; the marks are the position or the set.
+struct Common<'a> {
+    table: &'a mut Vec<u8>,
+    marks: &'a mut Vec<u8>,
+    work: &'a mut Vec<u16>,
+    n: &'a mut usize,
+    settings: &'a mut Settings,
+}
+
+/// The faults 1 to 10, which page and set query share.
+fn put_common_fault(random: &mut Random, common: Common, number: u32) {
+    let Common { table, marks, work, n, settings } = common;
     match number {
+        1 => *n = *random.pick(&[1025, 1026, 65536, 1 << 32, (1 << 32) + 4, 1 << 63, usize::MAX]),
+        2 => longer_or_shorter(random, table),
         3 => table[random.below(9)] = random.between(2, 255) as u8,
         4 => table[10] = 1,
         5 => table[if random.percent(50) { 11 } else { 14 }] = 1,
-        6 => *notion = *random.pick(&[3, 4, 256, 1 << 16, 1 << 31, u32::MAX]),
-        7 => *kind = *random.pick(&[2, 3, 256, 1 << 16, 1 << 31, u32::MAX]),
-        8 => *c = *random.pick(&[0, 1025, 1026, 65536, 65537, 1 << 31, u32::MAX]),
+        6 => settings.notion = *random.pick(&[3, 4, 256, 1 << 16, 1 << 31, u32::MAX]),
+        7 => settings.kind = *random.pick(&[2, 3, 256, 1 << 16, 1 << 31, u32::MAX]),
+        8 => settings.c = *random.pick(&[0, 1025, 1026, 65536, 65537, 1 << 31, u32::MAX]),
+        9 => longer_or_shorter(random, marks),
+        10 => work.truncate(random.below(32)),
         _ => unreachable!(),
+    }
+}
+
+/// One byte more or less.
+fn longer_or_shorter(random: &mut Random, bytes: &mut Vec<u8>) {
+    if random.percent(50) {
+        bytes.push(random.below(3) as u8);
+    } else {
+        bytes.pop();
     }
 }
 
@@ -154,7 +164,7 @@ fn a_position_dead_by_left_neighbours() {
         request.n = 6;
         request.table = graph.table.clone();
         request.work = random.entries(48);
-        request.c = c as u32;
+        request.settings.c = c as u32;
         for left in 0..=4 {
             let mut position = vec![1];
             position.extend(vec![2; left]);
@@ -172,35 +182,19 @@ fn a_position_dead_by_left_neighbours() {
 }
 
 fn sound_set(random: &mut Random) -> SetRequest {
-    SetRequest {
-        table: samples::claw().table,
-        set: (0..4).map(|_| random.below(2) as u8).collect(),
-        work: random.entries(32),
-        n: 4,
-        notion: random.below(3) as u32,
-        kind: random.below(2) as u32,
-        c: random.between(1, 5) as u32,
-    }
+    let settings = some_settings(random);
+    let set = (0..4).map(|_| random.below(2) as u8).collect();
+    SetRequest::of(random, &samples::claw(), settings, set)
 }
 
 fn put_set_fault(random: &mut Random, request: &mut SetRequest, number: u32) {
+    let SetRequest { table, set, work, n, settings } = request;
     match number {
-        1 => request.n = *random.pick(&[1025, 1026, 65536, 1 << 32, (1 << 32) + 4, 1 << 63, usize::MAX]),
-        2 if random.percent(50) => request.table.push(random.below(3) as u8),
-        2 => drop(request.table.pop()),
-        9 if random.percent(50) => request.set.push(random.below(2) as u8),
-        9 => drop(request.set.pop()),
-        10 => request.work.truncate(random.below(32)),
         11 => {
-            let place = random.below(request.set.len());
-            request.set[place] = random.between(2, 255) as u8;
+            let place = random.below(set.len());
+            set[place] = random.between(2, 255) as u8;
         }
-        _ => put_common_fault(
-            random,
-            &mut request.table,
-            [&mut request.notion, &mut request.kind, &mut request.c],
-            number,
-        ),
+        _ => put_common_fault(random, Common { table, marks: set, work, n, settings }, number),
     }
 }
 
@@ -230,25 +224,15 @@ fn limits() {
     let mut random = Random::new(5);
     for n in 0..=5usize {
         let graph = samples::any(&mut random, n);
-        let list = Reference::of(graph.clone()).full_list(Settings { notion: 2, kind: 0, c: 2 });
-        let request = |random: &mut Random| PageRequest {
-            table: graph.table.clone(),
-            position: vec![0; n],
-            output: random.entries(30),
-            work: random.entries(8 * n),
-            n,
-            notion: 2,
-            kind: 0,
-            c: 2,
-            budget: 1000,
-        };
+        let settings = Settings { notion: 2, kind: 0, c: 2 };
+        let list = Reference::of(graph.clone()).full_list(settings);
         for (table, position, work) in
             (0..3).flat_map(|a| (0..3).flat_map(move |b| (0..3).map(move |d| (n * n + a, n + b, 8 * n + d))))
         {
             if table == 0 || position == 0 || work == 0 {
                 continue;
             }
-            let mut request = request(&mut random);
+            let mut request = PageRequest::fresh(&mut random, &graph, settings, 30, 1000);
             request.table.resize(table - 1, 0);
             request.position.resize(position - 1, 0);
             request.work.resize(work - 1, 0);
@@ -256,7 +240,7 @@ fn limits() {
         }
         for place in 0..n * n {
             for byte in [1, 2, 3, 128, 129, 254, 255] {
-                let mut request = request(&mut random);
+                let mut request = PageRequest::fresh(&mut random, &graph, settings, 30, 1000);
                 request.table[place] = byte;
                 if let Some(refusal) = calls::page_refusal(&request) {
                     check_page(&request, refusal);

@@ -1,7 +1,7 @@
 //! The text reader beside a second reader: sound texts, changed ones, cut ones, all short ones, and texts with any two
 //! faults. Number, line, N, M and every byte of the lent table must agree.
 
-use outside::cases::cases;
+use outside::cases::{alone, cases};
 use outside::graph::Graph;
 use outside::library::{self, TextAnswer};
 use outside::random::Random;
@@ -103,9 +103,8 @@ fn changed_texts() {
         let table = some_table(random, n);
         *told.entry(check(&text, &table).refusal).or_insert(0u32) += 1;
     });
-    let alone = std::env::var_os("ISOLATED_SEED").is_some();
     let common = [0, 31, 32, 33, 34, 36, 38, 39, 40];
-    assert!(alone || common.iter().all(|number| told.get(number) > Some(&20)), "too few of some numbers: {told:?}");
+    assert!(alone() || common.iter().all(|number| told.get(number) > Some(&20)), "too few of some numbers: {told:?}");
 }
 
 #[test]
