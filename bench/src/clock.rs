@@ -49,13 +49,3 @@ fn median(mut times: Vec<f64>) -> f64 {
     times.sort_by(f64::total_cmp);
     times[times.len() / 2]
 }
-
-/// A time in a unit that reads well.
-pub fn shown(nanoseconds: f64) -> String {
-    match nanoseconds {
-        t if t < 1e3 => format!("{t:.0} ns"),
-        t if t < 1e6 => format!("{:.1} µs", t / 1e3),
-        t if t < 1e9 => format!("{:.1} ms", t / 1e6),
-        t => format!("{:.2} s", t / 1e9),
-    }
-}

@@ -1,7 +1,8 @@
 //! What a call costs before its first step: the tests of its arguments and the ranks.
 
-use crate::clock::{medians, shown};
+use crate::clock::medians;
 use crate::graphs::near_cliques;
+use crate::shown;
 use isolated::{page, work_entries, Kind, Notion, Settings};
 use std::hint::black_box;
 
@@ -29,7 +30,13 @@ pub fn print() {
             },
         ]);
         let [page, scan] = [medians[0] / times as f64, medians[1] / times as f64];
-        println!("| {n} | {} | {} | {:.1} | {:.2} |", shown(page), shown(scan), page / scan, page / (n * n) as f64);
+        println!(
+            "| {n} | {} | {} | {:.1} | {:.2} |",
+            shown::time(page),
+            shown::time(scan),
+            page / scan,
+            page / (n * n) as f64
+        );
     }
     println!();
 }

@@ -1,7 +1,8 @@
 //! How the walk grows with c.
 
-use crate::clock::{medians, shown};
+use crate::clock::medians;
 use crate::graphs::{near_cliques, random, Graph};
+use crate::shown;
 use isolated::{Groups, Kind, Notion, Room, Settings};
 use std::hint::black_box;
 
@@ -18,7 +19,7 @@ fn grow(name: &str, graph: &Graph, most: u32) {
             black_box(listing.count());
         }])[0];
         let grown = before.map_or("".to_string(), |before: f64| format!("{:.2}", time / before));
-        println!("| {name} | {c} | {groups} | {steps} | {} | {grown} |", shown(time));
+        println!("| {name} | {c} | {groups} | {steps} | {} | {grown} |", shown::time(time));
         before = Some(time);
     }
 }

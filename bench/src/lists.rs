@@ -1,8 +1,9 @@
 //! The whole list at kind 1 beside a Bron-Kerbosch listing with a filter.
 
-use crate::clock::{medians, shown};
+use crate::clock::medians;
 use crate::graphs::{near_cliques, random, Graph};
 use crate::kerbosch;
+use crate::shown;
 use isolated::{Groups, Kind, Notion, Room, Settings};
 use std::hint::black_box;
 
@@ -26,8 +27,8 @@ fn compare(name: &str, graph: &Graph, c: u32) {
     println!(
         "| {name} | {} | {c} | {groups} | {steps} | {} | {} | {ratio:.2} |",
         graph.n,
-        shown(times[0]),
-        shown(times[1])
+        shown::time(times[0]),
+        shown::time(times[1])
     );
 }
 

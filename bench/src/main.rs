@@ -7,6 +7,7 @@ mod growth;
 mod kerbosch;
 mod lists;
 mod reader;
+mod shown;
 mod steps;
 mod twin;
 mod twins;

@@ -1,7 +1,7 @@
 //! The text reader in bytes a second, beside a plain scan for line ends.
 
 use crate::clock::medians;
-use crate::graphs::random;
+use crate::graphs::{random, text};
 use isolated::read_text;
 use std::hint::black_box;
 
@@ -11,7 +11,7 @@ pub fn print() {
     println!("| N | M | bytes | reader, MB a second | plain scan, MB a second | reader to scan, in time |");
     println!("|---|---|---|---|---|---|");
     for (n, degree) in [(64, 20), (256, 50), (1024, 40)] {
-        let text = random(n, degree, 3).text();
+        let text = text(&random(n, degree, 3));
         let mut table = vec![0; n * n];
         let read = read_text(&text, &mut table).expect("the text is sound");
         let times = (1 << 23) / text.len();

@@ -1,7 +1,8 @@
 //! Nanoseconds a step at n = 64, 256 and 1,024 where every vertex has the same surroundings.
 
 use crate::clock::medians;
-use crate::graphs::{near_cliques, ring, Graph};
+use crate::graphs::{Graph, NEAR_CLIQUES, RINGS};
+use crate::shown;
 use isolated::{page, work_entries, Kind, Notion, Settings};
 use std::hint::black_box;
 
@@ -72,22 +73,18 @@ pub fn print() {
     println!("Nanoseconds a step, the call's opening taken off. The bar: n = 1,024 takes at most 1.5 times n = 64.\n");
     println!("| graph | settings | n = 64 | n = 256 | n = 1,024 | 1,024 to 64 |");
     println!("|---|---|---|---|---|---|");
-    let settings = |notion, kind, c| Settings { notion, kind, c };
-    let blocks: fn(usize) -> Graph = near_cliques;
-    let rings: fn(usize) -> Graph = |n| ring(n, 4);
-    for (name, make, settings) in [
-        ("near-cliques of 8", blocks, settings(Notion::Max, Kind::MaximalIsolated, 4)),
-        ("near-cliques of 8", blocks, settings(Notion::Avg, Kind::IsolatedMaximal, 4)),
-        ("ring, reach 4", rings, settings(Notion::Max, Kind::MaximalIsolated, 6)),
-        ("ring, reach 4", rings, settings(Notion::Min, Kind::IsolatedMaximal, 6)),
+    for ((name, make), notion, kind, c) in [
+        (NEAR_CLIQUES, Notion::Max, Kind::MaximalIsolated, 4),
+        (NEAR_CLIQUES, Notion::Avg, Kind::IsolatedMaximal, 4),
+        (RINGS, Notion::Max, Kind::MaximalIsolated, 6),
+        (RINGS, Notion::Min, Kind::IsolatedMaximal, 6),
     ] {
+        let settings = Settings { notion, kind, c };
         let mut walks = [64, 256, 1024].map(|n| Timed::new(make(n), settings));
         let times = step_times(&mut walks);
         println!(
-            "| {name} | {} {} {} | {:.2} | {:.2} | {:.2} | {:.2} |",
-            settings.notion.number(),
-            settings.kind.number(),
-            settings.c,
+            "| {name} | {} | {:.2} | {:.2} | {:.2} | {:.2} |",
+            shown::settings(settings),
             times[0],
             times[1],
             times[2],

@@ -1,9 +1,10 @@
 //! The page beside the same page in safe Rust.
 
-use crate::clock::{medians, shown};
-use crate::graphs::{near_cliques, random, ring, Graph};
+use crate::clock::medians;
+use crate::graphs::{random, Family, Graph, NEAR_CLIQUES, RINGS};
+use crate::shown;
 use crate::twin;
-use isolated::{page, work_entries, Kind, Notion, Settings, Stop};
+use isolated::{page, work_entries, Kind, Notion, Settings};
 use std::hint::black_box;
 
 const BUDGET: u32 = 8_000_000;
@@ -17,13 +18,7 @@ fn check(graph: &Graph, settings: Settings) -> u32 {
     let mut work = vec![0; work_entries(n)];
     let ours = page(&graph.table, &mut position, &mut output, &mut work, n, settings, BUDGET).unwrap();
     let its = twin::page(&graph.table, &mut its_position, &mut its_output, &mut work, n, settings, BUDGET).unwrap();
-    let stop = match ours.stop {
-        Stop::Finished => twin::Stop::Finished,
-        Stop::Spent => twin::Stop::Spent,
-        Stop::Full { .. } => twin::Stop::Full,
-    };
-    let expected = twin::Page { stop, groups: ours.groups, steps: ours.steps, used: ours.used };
-    assert_eq!(its, expected, "the twin answers otherwise");
+    assert_eq!(its, ours, "the twin answers otherwise");
     assert!(position == its_position && output == its_output, "the twin leaves other memory");
     ours.steps
 }
@@ -63,12 +58,10 @@ fn compare(name: &str, graph: &Graph, settings: Settings) {
         },
     );
     println!(
-        "| {name} | {n} | {} {} {} | {steps} | {} | {} | {:.2} | {:.2} |",
-        settings.notion.number(),
-        settings.kind.number(),
-        settings.c,
-        shown(ours),
-        shown(its),
+        "| {name} | {n} | {} | {steps} | {} | {} | {:.2} | {:.2} |",
+        shown::settings(settings),
+        shown::time(ours),
+        shown::time(its),
         ours / its,
         (ours - our_opening) / (its - its_opening)
     );
@@ -80,12 +73,8 @@ pub fn print() {
     println!("both sides taken off. The bar: at most 1.1 times the twin.\n");
     println!("| graph | n | settings | steps | page | twin | page to twin | walk to twin's walk |");
     println!("|---|---|---|---|---|---|---|---|");
-    let blocks: fn(usize) -> Graph = near_cliques;
-    let rings: fn(usize) -> Graph = |n| ring(n, 4);
-    let randoms: fn(usize) -> Graph = |n| random(n, 12, 5);
-    for (name, make, c) in
-        [("near-cliques of 8", blocks, 4), ("ring, reach 4", rings, 6), ("random, degree 12", randoms, 8)]
-    {
+    let randoms: Family = ("random, degree 12", |n| random(n, 12, 5));
+    for ((name, make), c) in [(NEAR_CLIQUES, 4), (RINGS, 6), (randoms, 8)] {
         for n in [64, 256, 1024] {
             let graph = make(n);
             for (notion, kind) in [(Notion::Max, Kind::MaximalIsolated), (Notion::Avg, Kind::IsolatedMaximal)] {

@@ -2,88 +2,88 @@
 
 use std::fmt;
 
-/// Why a call was turned back. Where several faults are present, document 01 fixes which one is told.
+/// Why a call was turned back, with the numbers of document 01, which also fixes which one of several faults is told.
 #[derive(Clone, Copy, Debug, PartialEq, Eq, Hash)]
 pub enum Refusal {
-    /// 1: n is over 1,024.
-    Vertices,
-    /// 2: the table's length is not n × n.
-    TableLength,
-    /// 3: a table byte is neither 0 nor 1.
-    TableByte,
-    /// 4: a vertex is joined to itself.
-    Diagonal,
-    /// 5: the table is not symmetric.
-    Symmetry,
-    /// 6: the notion's number is over 2. [`crate::Notion`] has no such value.
-    Notion,
-    /// 7: the kind's number is over 1. [`crate::Kind`] has no such value.
-    Kind,
-    /// 8: c is 0 or over 1,024.
-    Factor,
-    /// 9: the position's or the set's length is not n.
-    Length,
-    /// 10: the work slice has fewer than 8 × n entries.
-    Work,
-    /// 11: a set byte is over 1.
-    SetByte,
-    /// 21: a position byte is over 2.
-    PositionByte,
-    /// 22: a decided rank stands after an open one.
-    PositionOrder,
-    /// 23: the position with its last decided rank opened is dead.
-    PositionDead,
-    /// 31: an empty line, a first letter that is not c, p or e, or no space after it.
-    LineStart,
-    /// 32: another fault of form.
-    Form,
-    /// 33: an e line before any p line, or no p line at all.
-    NoPLine,
-    /// 34: a second p line.
-    SecondPLine,
-    /// 35: N is over 1,024.
-    TextVertices,
-    /// 36: U or V is 0 or over N.
-    Range,
-    /// 37: U equals V.
-    SameVertex,
-    /// 38: the pair stood before, in this direction or the other.
-    RepeatedPair,
-    /// 39: M differs from the number of e lines.
-    EdgeCount,
-    /// 40: the table has fewer than N × N bytes.
-    TableShort,
+    /// n is over 1,024.
+    Vertices = 1,
+    /// The table's length is not n × n.
+    TableLength = 2,
+    /// A table byte is neither 0 nor 1.
+    TableByte = 3,
+    /// A vertex is joined to itself.
+    Diagonal = 4,
+    /// The table is not symmetric.
+    Symmetry = 5,
+    /// The notion's number is over 2. [`crate::Notion`] has no such value.
+    Notion = 6,
+    /// The kind's number is over 1. [`crate::Kind`] has no such value.
+    Kind = 7,
+    /// c is 0 or over 1,024.
+    Factor = 8,
+    /// The position's or the set's length is not n.
+    Length = 9,
+    /// The work slice has fewer than 8 × n entries.
+    Work = 10,
+    /// A set byte is over 1.
+    SetByte = 11,
+    /// A position byte is over 2.
+    PositionByte = 21,
+    /// A decided rank stands after an open one.
+    PositionOrder = 22,
+    /// The position with its last decided rank opened is dead.
+    PositionDead = 23,
+    /// An empty line, a first letter that is not c, p or e, or no space after it.
+    LineStart = 31,
+    /// Another fault of form.
+    Form = 32,
+    /// An e line before any p line, or no p line at all.
+    NoPLine = 33,
+    /// A second p line.
+    SecondPLine = 34,
+    /// N is over 1,024.
+    TextVertices = 35,
+    /// U or V is 0 or over N.
+    Range = 36,
+    /// U equals V.
+    SameVertex = 37,
+    /// The pair stood before, in this direction or the other.
+    RepeatedPair = 38,
+    /// M differs from the number of e lines.
+    EdgeCount = 39,
+    /// The table has fewer than N × N bytes.
+    TableShort = 40,
 }
 
-/// Every refusal with its number, lowest first.
-const NUMBERS: [(Refusal, u32); 24] = [
-    (Refusal::Vertices, 1),
-    (Refusal::TableLength, 2),
-    (Refusal::TableByte, 3),
-    (Refusal::Diagonal, 4),
-    (Refusal::Symmetry, 5),
-    (Refusal::Notion, 6),
-    (Refusal::Kind, 7),
-    (Refusal::Factor, 8),
-    (Refusal::Length, 9),
-    (Refusal::Work, 10),
-    (Refusal::SetByte, 11),
-    (Refusal::PositionByte, 21),
-    (Refusal::PositionOrder, 22),
-    (Refusal::PositionDead, 23),
-    (Refusal::LineStart, 31),
-    (Refusal::Form, 32),
-    (Refusal::NoPLine, 33),
-    (Refusal::SecondPLine, 34),
-    (Refusal::TextVertices, 35),
-    (Refusal::Range, 36),
-    (Refusal::SameVertex, 37),
-    (Refusal::RepeatedPair, 38),
-    (Refusal::EdgeCount, 39),
-    (Refusal::TableShort, 40),
-];
-
 impl Refusal {
+    /// All refusals, in the order of their numbers.
+    pub const ALL: [Refusal; 24] = [
+        Refusal::Vertices,
+        Refusal::TableLength,
+        Refusal::TableByte,
+        Refusal::Diagonal,
+        Refusal::Symmetry,
+        Refusal::Notion,
+        Refusal::Kind,
+        Refusal::Factor,
+        Refusal::Length,
+        Refusal::Work,
+        Refusal::SetByte,
+        Refusal::PositionByte,
+        Refusal::PositionOrder,
+        Refusal::PositionDead,
+        Refusal::LineStart,
+        Refusal::Form,
+        Refusal::NoPLine,
+        Refusal::SecondPLine,
+        Refusal::TextVertices,
+        Refusal::Range,
+        Refusal::SameVertex,
+        Refusal::RepeatedPair,
+        Refusal::EdgeCount,
+        Refusal::TableShort,
+    ];
+
     /// The number of document 01.
     ///
     /// ```
@@ -91,7 +91,7 @@ impl Refusal {
     /// assert_eq!(Refusal::Symmetry.number(), 5);
     /// ```
     pub fn number(self) -> u32 {
-        NUMBERS.iter().find(|(refusal, _)| *refusal == self).expect("every refusal has a number").1
+        self as u32
     }
 
     /// The refusal of a number, `None` where document 01 gives the number to no call.
@@ -102,7 +102,7 @@ impl Refusal {
     /// assert_eq!(Refusal::of_number(0), None);
     /// ```
     pub fn of_number(number: u32) -> Option<Refusal> {
-        NUMBERS.iter().find(|(_, its)| *its == number).map(|(refusal, _)| *refusal)
+        Refusal::ALL.into_iter().find(|refusal| refusal.number() == number)
     }
 
     /// What the library told: nothing for 0. It tells no other number than those above.

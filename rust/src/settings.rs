@@ -4,20 +4,20 @@
 #[derive(Clone, Copy, Debug, PartialEq, Eq, Hash)]
 pub enum Notion {
     /// Some member has an outside count less than c.
-    Min,
+    Min = 0,
     /// The outside counts sum to less than c times the number of members.
-    Avg,
+    Avg = 1,
     /// Every member has an outside count less than c.
-    Max,
+    Max = 2,
 }
 
 /// What a group must not be contained in.
 #[derive(Clone, Copy, Debug, PartialEq, Eq, Hash)]
 pub enum Kind {
     /// No larger set that contains it is an isolated clique.
-    MaximalIsolated,
+    MaximalIsolated = 0,
     /// No larger set that contains it is a clique.
-    IsolatedMaximal,
+    IsolatedMaximal = 1,
 }
 
 /// A notion, a kind and a factor. The factor `c` goes from 1 to 1,024; another one is refused by each call.
@@ -38,11 +38,7 @@ impl Notion {
     /// assert_eq!(isolated::Notion::Max.number(), 2);
     /// ```
     pub fn number(self) -> u32 {
-        match self {
-            Notion::Min => 0,
-            Notion::Avg => 1,
-            Notion::Max => 2,
-        }
+        self as u32
     }
 }
 
@@ -56,9 +52,6 @@ impl Kind {
     /// assert_eq!(isolated::Kind::IsolatedMaximal.number(), 1);
     /// ```
     pub fn number(self) -> u32 {
-        match self {
-            Kind::MaximalIsolated => 0,
-            Kind::IsolatedMaximal => 1,
-        }
+        self as u32
     }
 }

@@ -1,7 +1,7 @@
 //! A small generator of pseudo-random numbers (splitmix64), so that a seed gives the same case everywhere.
 
 pub struct Random {
-    state: u64,
+    pub state: u64,
 }
 
 impl Random {
