@@ -11,6 +11,6 @@ fi
 ISOLATED_LIB_DIR=$(realpath -m -- "$ISOLATED_LIB_DIR")
 export ISOLATED_LIB_DIR
 if [ ! -f "$ISOLATED_LIB_DIR/libffi.a" ]; then
-    echo "error: the static library was not built: $ISOLATED_LIB_DIR holds no libffi.a"
+    echo "error: no static library: $ISOLATED_LIB_DIR holds no libffi.a"
     return 1
 fi

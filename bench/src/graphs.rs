@@ -7,6 +7,7 @@ use outside::random::Random;
 /// A family of graphs: its name, and its graph of n vertices.
 pub type Family = (&'static str, fn(usize) -> Graph);
 
+// The families that stand in several tables.
 pub const NEAR_CLIQUES: Family = ("near-cliques of 8", near_cliques);
 pub const RINGS: Family = ("ring, reach 4", |n| ring(n, 4));
 
