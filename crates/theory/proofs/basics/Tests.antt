@@ -1,6 +1,6 @@
 -- What the tests of `specs.Below` say: `Test b P` is that the test b passes exactly where P holds.
 -- Assumes nothing.
-use Prim.Native.Nat.{ℕ, zero, suc, _+_, _≤_, _<_, zero-le}
+use Prim.Native.Nat.{_-_, ℕ, zero, suc, _+_, _≤_, _<_, zero-le}
 use mathlib.Core.Path.{_≡_, refl, sym, ap, ap₂, _∙_}
 use mathlib.Core.List.{List, [], _∷_}
 use mathlib.Core.Logic.{_↔_, _≢_, _⊎_, inl, inr, ⊎-elim}
@@ -246,3 +246,7 @@ all-same n p q e =
     test-agree (test-all n p (λ i. test-self)) (test-all n q (λ i. test-self))
     (λ f i h. sym (e i h) ∙ f i h)
     (λ f i h. e i h ∙ f i h)
+
+-- one less than the next number
+pub suc-less : (k : ℕ) → suc k - 1 ≡ k
+suc-less k = omega arith

@@ -19,7 +19,7 @@ use Rattle.model.specs.Listing.{is, adjacent, pivot, apart, leftNeighbours, dea
 use Rattle.model.specs.Calls.{gap, reopened}
 use Rattle.model.specs.Faults.{Apart, Dead, Reopened}
 pub use Rattle.theory.proofs.basics.Tests.{test-map, in-length, not-different}
-use Rattle.theory.proofs.basics.Tests.{Test, fails, passes-or-fails, last-or-below, trichotomy}
+use Rattle.theory.proofs.basics.Tests.{suc-less, Test, fails, passes-or-fails, last-or-below, trichotomy}
 use Rattle.theory.proofs.basics.Counting.{least-first, least-is}
 use Rattle.theory.proofs.walk.Remaining.{has-test}
 use Rattle.theory.proofs.walk.Lawful.{apart-test, dead-test, pivot-taken}
@@ -173,10 +173,7 @@ module _ (p : Position) (g : Gap p → ⊥) where
       (least-is (length p) (is 0 p) (suc r) h
       (λ i b. ne-eqb (getD p i 0) 0 (λ z. last-or-below b (λ e. l .0 (sym (ap (λ (i : ℕ). getD p i 0) e) ∙ z)) (λ b. g (i, r, b, h, z, l .0))))
       (λ b. eq-eqb (getD p (suc r) 0) 0 (l .1 (suc r) (omega arith))))
-      ∙ ap (λ (k : ℕ). set p k 0) (less r)
-    where
-      less : (r : ℕ) → suc r - 1 ≡ r
-      less r = omega arith
+      ∙ ap (λ (k : ℕ). set p k 0) (suc-less r)
 
 opened-at : (p : Position) → ((r : ℕ) → getD p r 0 ≡ 0) → (k r : ℕ) → getD (set p k 0) r 0 ≡ 0
 opened-at [] f k r = refl

@@ -145,21 +145,3 @@ module _ (G : Graph) (S : VertexSet) where
         (λ v l e.
         let r = common-test v l .0 e in
         test-and {a = G .joined u v} test-self test-fails .1 (symmetric u v (h .0) l ∙ r .joins u h, r .beyond))
-
--- so an isolated clique has fewer than c of them, in every notion: they are among the pivot's outside neighbours
-pub common-fewer : (G : Graph)
-    → Loopless G
-    → Symmetric G
-    → (notion : ℕ) (c : Factor) (S : VertexSet) → IsolatedClique G notion c S → Under c 1 (count (G .size) (common G S))
-common-fewer G loopless symmetric notion c S i = go (passes-or-fails (within c 1 (count (G .size) (common G S))))
-  where
-    few : Test (within c 1 (count (G .size) (common G S))) (Under c 1 (count (G .size) (common G S)))
-    few = under-test c 1 (count (G .size) (common G S))
-
-    go : (within c 1 (count (G .size) (common G S)) ≡ true) ⊎ (within c 1 (count (G .size) (common G S)) ≡ false) → Under c 1 (count (G .size) (common G S))
-    go (inl e) = few .0 e
-    go (inr e) =
-        absurd
-        (not-isolated G loopless S (i .clique) notion c
-        (λ u h under. true≢false (sym (few .1 (under-mono c 1 (common-outside G S symmetric u h) under)) ∙ e))
-        (i .isolated))

@@ -211,28 +211,10 @@ module _ (G : Graph) (loopless : Loopless G) (S : VertexSet) (C : Clique G S) wh
   pub outgoing-degrees : outgoing G S ≡ degreeSum G S - sizeOf G S * (sizeOf G S - 1)
   outgoing-degrees = let a = shifted in omega arith
 
-  -- from each member's degree
-  pub min-degrees : (c : Factor) → isolatedMin G c S ≡ any (G .size) (λ u. S u && within c 1 (degree G u - (sizeOf G S - 1)))
-  unfolding isolatedMin
-  min-degrees c = any-same (G .size) _ _ (λ u h. at u h (S u) refl)
-    where
-      at : (u : ℕ) → u < G .size → (b : Bool) → S u ≡ b → (b && within c 1 (outside G S u)) ≡ (b && within c 1 (degree G u - (sizeOf G S - 1)))
-      at u h true e = ap (λ (x : ℕ). within c 1 x) (outside-is G loopless S C u (h, e))
-      at u h false e = refl
-
   -- avg, by the sum of the degrees
   pub avg-degrees : (c : Factor) → isolatedAvg G c S ≡ within c (sizeOf G S) (degreeSum G S - sizeOf G S * (sizeOf G S - 1))
   unfolding isolatedAvg
   avg-degrees c = ap (λ (x : ℕ). within c (sizeOf G S) x) outgoing-degrees
-
-  -- max, by each degree
-  pub max-degrees : (c : Factor) → isolatedMax G c S ≡ all (G .size) (λ u. implies (S u) (within c 1 (degree G u - (sizeOf G S - 1))))
-  unfolding isolatedMax
-  max-degrees c = all-same (G .size) _ _ (λ u h. at u h (S u) refl)
-    where
-      at : (u : ℕ) → u < G .size → (b : Bool) → S u ≡ b → implies b (within c 1 (outside G S u)) ≡ implies b (within c 1 (degree G u - (sizeOf G S - 1)))
-      at u h true e = ap (λ (x : ℕ). within c 1 x) (outside-is G loopless S C u (h, e))
-      at u h false e = refl
 
   -- from the number, the sum, the least and the largest of the members' degrees
   pub isolated-by : (notion : ℕ) (c : Factor)

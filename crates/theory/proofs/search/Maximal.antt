@@ -101,11 +101,3 @@ module _ (G : Graph) (loopless : Loopless G) (symmetric : Symmetric G) (S : Vert
               fails (qualifies G s S)
               (λ q. true≢false (sym (isolated-test G (s .notion) (s .factor) S .1 (qualifies-iff G s S .0 q .isolated-clique .isolated)) ∙ e))
               ∙ ap (λ (b : Bool). b && rest) (sym e ∙ same)
-
-      -- the search that leaves hopeless branches serves as well
-      pub beaten-cut : (kind notion : ℕ) (c : Factor)
-          → beaten G kind notion c k sum least largest vs ≡ cond (searched kind notion) (findCut G notion c [] k sum least largest vs) (ltb 0 (length vs))
-      unfolding beaten
-      beaten-cut kind notion c =
-          ap (λ (b : Bool). cond (searched kind notion) b (ltb 0 (length vs)))
-          (sym (search-cut G loopless symmetric notion c S C vs A k sum least largest t))

@@ -20,29 +20,6 @@ use Rattle.theory.proofs.graph.Degrees.{size-same, sum-same, least-same
 use Rattle.theory.proofs.basics.Passing.{push-listed, listed-push}
 use Rattle.theory.proofs.search.Candidates.{joined-test}
 
--- what is gathered over the vertices below i, as a loop over i goes
-module _ (op : ℕ → ℕ → ℕ) (start : ℕ) (S : VertexSet) (f : ℕ → ℕ) where
-  -- a gathering up to 0 is the start
-  pub gather-none : gather op start 0 S f ≡ start
-  unfolding gather
-  gather-none = refl
-
-  -- a member is joined
-  pub gather-hit : (i : ℕ) → S i ≡ true → gather op start (i + 1) S f ≡ op (gather op start i S f) (f i)
-  unfolding gather
-  gather-hit i e = rw (add-one i, e)
-
-  -- any other number changes nothing
-  pub gather-miss : (i : ℕ) → S i ≡ false → gather op start (i + 1) S f ≡ gather op start i S f
-  unfolding gather
-  gather-miss i e = rw (add-one i, e)
-
--- over all vertices that is the set's tally
-pub tally-gather : (G : Graph) (S : VertexSet)
-    → Tally G S (count (G .size) S) (gather _+_ 0 (G .size) S (degree G)) (gather min (G .size) (G .size) S (degree G)) (gather max 0 (G .size) S (degree G))
-unfolding sizeOf degreeSum leastDegree largestDegree
-tally-gather G S = record { members = refl; summed = refl; lowest = refl; highest = refl }
-
 -- two sets that agree on the vertices have one tally
 pub tally-same : (G : Graph) (S T : VertexSet) → ((v : ℕ) → v < G .size → S v ≡ T v) → (k sum least largest : ℕ) → Tally G S k sum least largest → Tally G T k sum least largest
 tally-same G S T same k sum least largest t =

@@ -28,17 +28,12 @@ module _ (a h d r : Bool) where
 -- the search over the candidates from place i of the list
 module _ (G : Graph) (notion : ℕ) (c : Factor) (added : List ℕ) (k sum least largest : ℕ) (vs : List ℕ) (i : ℕ) where
   -- past the last candidate nothing is found
-  pub find-end : length vs ≤ i → findLarger G notion c added k sum least largest (drop i vs) ≡ false
-  unfolding findLarger
-  find-end h = rw (drop-of-length-le vs h)
-
-  -- in either search
   pub cut-end : length vs ≤ i → findCut G notion c added k sum least largest (drop i vs) ≡ false
   unfolding findCut
   cut-end h = rw (drop-of-length-le vs h)
 
   module _ (inside : i < length vs) where
-    -- the candidate there, whether the set with it is isolated, and both searches with it
+    -- the candidate there, whether the set with it is isolated, and the search with it
     abbrev candidate : ℕ
     candidate = getD vs i 0
 
@@ -47,11 +42,6 @@ module _ (G : Graph) (notion : ℕ) (c : Factor) (added : List ℕ) (k sum least
 
     abbrev deeper : Bool
     deeper =
-        findLarger G notion c (added ++ (candidate ∷ [])) (k + 1) (sum + degree G candidate) (min least (degree G candidate)) (max largest (degree G candidate))
-        (drop (i + 1) vs)
-
-    abbrev deeperCut : Bool
-    deeperCut =
         findCut G notion c (added ++ (candidate ∷ [])) (k + 1) (sum + degree G candidate) (min least (degree G candidate)) (max largest (degree G candidate))
         (drop (i + 1) vs)
 
@@ -59,38 +49,14 @@ module _ (G : Graph) (notion : ℕ) (c : Factor) (added : List ℕ) (k sum least
     first = drop-cons vs i 0 inside ∙ ap (λ (j : ℕ). candidate ∷ drop j vs) (sym (add-one i))
 
     -- what the search finds at a candidate
-    pub find-at : findLarger G notion c added k sum least largest (drop i vs)
-        ≡ ((joinedAll G candidate added && (here || deeper)) || findLarger G notion c added k sum least largest (drop (i + 1) vs))
-    unfolding findLarger
-    find-at = ap (λ (l : List ℕ). findLarger G notion c added k sum least largest l) first
-
-    -- passed over, where it is not joined to those added; found, with it or below it; passed over, where nothing is found with it
-    pub find-apart : joinedAll G candidate added ≡ false
-        → findLarger G notion c added k sum least largest (drop i vs) ≡ findLarger G notion c added k sum least largest (drop (i + 1) vs)
-    find-apart e = find-at ∙ apart-or _ here deeper _ e
-
-    -- found with it
-    pub find-here : joinedAll G candidate added ≡ true → here ≡ true → findLarger G notion c added k sum least largest (drop i vs) ≡ true
-    find-here e f = find-at ∙ here-or _ here deeper _ e f
-
-    -- found below it
-    pub find-deeper : joinedAll G candidate added ≡ true → deeper ≡ true → findLarger G notion c added k sum least largest (drop i vs) ≡ true
-    find-deeper e f = find-at ∙ deeper-or _ here deeper _ e f
-
-    -- passed over, where nothing is found with it
-    pub find-next : here ≡ false → deeper ≡ false
-        → findLarger G notion c added k sum least largest (drop i vs) ≡ findLarger G notion c added k sum least largest (drop (i + 1) vs)
-    find-next e f = find-at ∙ next-or (joinedAll G candidate added) here deeper _ e f
-
-    -- the same of the search that leaves a hopeless branch
     pub cut-at : findCut G notion c added k sum least largest (drop i vs)
         ≡ (not (hopeless notion c k (length vs - i) sum largest)
-        && ((joinedAll G candidate added && (here || deeperCut)) || findCut G notion c added k sum least largest (drop (i + 1) vs)))
+        && ((joinedAll G candidate added && (here || deeper)) || findCut G notion c added k sum least largest (drop (i + 1) vs)))
     unfolding findCut
     cut-at =
         ap (λ (l : List ℕ). findCut G notion c added k sum least largest l) first
         ∙ ap (λ (r : ℕ). not (hopeless notion c k r sum largest)
-        && ((joinedAll G candidate added && (here || deeperCut)) || findCut G notion c added k sum least largest (drop (i + 1) vs))) left
+        && ((joinedAll G candidate added && (here || deeper)) || findCut G notion c added k sum least largest (drop (i + 1) vs))) left
       where
         left : length (candidate ∷ drop (i + 1) vs) ≡ length vs - i
         left = ap length (sym first) ∙ length-drop i vs
@@ -101,23 +67,23 @@ module _ (G : Graph) (notion : ℕ) (c : Factor) (added : List ℕ) (k sum least
 
     module _ (hope : hopeless notion c k (length vs - i) sum largest ≡ false) where
       cut-on : findCut G notion c added k sum least largest (drop i vs)
-          ≡ ((joinedAll G candidate added && (here || deeperCut)) || findCut G notion c added k sum least largest (drop (i + 1) vs))
+          ≡ ((joinedAll G candidate added && (here || deeper)) || findCut G notion c added k sum least largest (drop (i + 1) vs))
       cut-on = cut-at ∙ rw hope
 
       -- passed over
       pub cut-apart : joinedAll G candidate added ≡ false
           → findCut G notion c added k sum least largest (drop i vs) ≡ findCut G notion c added k sum least largest (drop (i + 1) vs)
-      cut-apart e = cut-on ∙ apart-or _ here deeperCut _ e
+      cut-apart e = cut-on ∙ apart-or _ here deeper _ e
 
       -- found with it
       pub cut-here : joinedAll G candidate added ≡ true → here ≡ true → findCut G notion c added k sum least largest (drop i vs) ≡ true
-      cut-here e f = cut-on ∙ here-or _ here deeperCut _ e f
+      cut-here e f = cut-on ∙ here-or _ here deeper _ e f
 
       -- found below it
-      pub cut-deeper : joinedAll G candidate added ≡ true → deeperCut ≡ true → findCut G notion c added k sum least largest (drop i vs) ≡ true
-      cut-deeper e f = cut-on ∙ deeper-or _ here deeperCut _ e f
+      pub cut-deeper : joinedAll G candidate added ≡ true → deeper ≡ true → findCut G notion c added k sum least largest (drop i vs) ≡ true
+      cut-deeper e f = cut-on ∙ deeper-or _ here deeper _ e f
 
       -- passed over, where nothing is found with it
-      pub cut-next : here ≡ false → deeperCut ≡ false
+      pub cut-next : here ≡ false → deeper ≡ false
           → findCut G notion c added k sum least largest (drop i vs) ≡ findCut G notion c added k sum least largest (drop (i + 1) vs)
-      cut-next e f = cut-on ∙ next-or (joinedAll G candidate added) here deeperCut _ e f
+      cut-next e f = cut-on ∙ next-or (joinedAll G candidate added) here deeper _ e f

@@ -11,7 +11,7 @@ use Rattle.model.specs.Below.{least}
 use Rattle.model.specs.Walk.{Position, Rules, only, has, fresh, advance, retreat, step, after}
 use Rattle.model.specs.Listing.{is}
 use Rattle.model.specs.Calls.{refuse, over, gap, reopened, refusePosition}
-use Rattle.theory.proofs.basics.Tests.{fails}
+use Rattle.theory.proofs.basics.Tests.{fails, suc-less}
 use Rattle.theory.proofs.walk.Remaining.{Valid, Fit, not-open, open-valid, open-no-taken, fresh-open, fresh-fit, advance-length, retreat-length, retreat-deep, retreat-here, retreat-stays}
 use Rattle.theory.proofs.walk.Walk.{Lawful, step-down, step-up, step-valid, after-valid}
 
@@ -90,14 +90,8 @@ unfolding reopened
 reopened-under x y p =
     let l = least (length p) (is 0 p) in
     ap (λ (k : ℕ). set (suc x ∷ suc y ∷ p) (k - 1) 0) (least-under x (suc y ∷ p) ∙ ap suc (least-under y p))
-    ∙ ap (λ (k : ℕ). set (suc x ∷ suc y ∷ p) k 0) (twice l)
-    ∙ ap (λ (k : ℕ). suc x ∷ set (suc y ∷ p) k 0) (sym (once l) ∙ ap (λ (k : ℕ). k - 1) (sym (least-under y p)))
-  where
-    twice : (l : ℕ) → suc (suc l) - 1 ≡ suc l
-    twice l = omega arith
-
-    once : (l : ℕ) → suc l - 1 ≡ l
-    once l = omega arith
+    ∙ ap (λ (k : ℕ). set (suc x ∷ suc y ∷ p) k 0) (suc-less (suc l))
+    ∙ ap (λ (k : ℕ). suc x ∷ set (suc y ∷ p) k 0) (sym (suc-less l) ∙ ap (λ (k : ℕ). k - 1) (sym (least-under y p)))
 
 module _ (R : Rules) where
   -- so the reopened position was not dead

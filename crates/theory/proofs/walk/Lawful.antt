@@ -76,24 +76,21 @@ module _ (G : Graph) (p q : Position) (fit : Fit (G .size) p) (cm : Completes p 
       (t .0, t .1, (t .2 .0, t .2 .1, (((f .0 .0 .0, kept-rank 1 (t .0) (λ z. omega arith) (f .0 .0 .1)), kept-rank 1 (t .2 .0) (λ z. omega arith) (f .0 .1)), f .1)))
 
   module _ (taken : has 1 p ≡ true) where
-    own-pivot : (pivot G p < G .size) × (is 1 p (pivot G p) ≡ true)
-    own-pivot = pivot-taken G p (fit .0) taken
-
     -- the pivot stays the lowest taken rank, as all below it is decided
     pivot-stays : pivot G q ≡ pivot G p
     unfolding pivot
     pivot-stays = go (trichotomy (pivot G q) (pivot G p))
       where
         one : is 1 q (pivot G p) ≡ true
-        one = kept-rank 1 (pivot G p) (λ z. omega arith) (own-pivot .1)
+        one = kept-rank 1 (pivot G p) (λ z. omega arith) (pivot-taken G p (fit .0) taken .1)
 
         go : (pivot G q < pivot G p) ⊎ (pivot G q ≡ pivot G p) ⊎ (pivot G p < pivot G q) → pivot G q ≡ pivot G p
         go (inr (inl e)) = e
         go (inr (inr l)) = absurd (true≢false (sym one ∙ least-first (G .size) (is 1 q) (pivot G p) l))
         go (inl l) =
-            let at = eqb-true (getD p (pivot G p) 0) 1 (own-pivot .1) in
+            let at = eqb-true (getD p (pivot G p) 0) 1 (pivot-taken G p (fit .0) taken .1) in
             let d = decided-below p (fit .1) (pivot G q) (pivot G p) l (λ z. omega arith) in
-            let own = least-passes (G .size) (is 1 q) (pivot G p) (own-pivot .0) one .1 in
+            let own = least-passes (G .size) (is 1 q) (pivot G p) (pivot-taken G p (fit .0) taken .0) one .1 in
             let e = sym (cm .keeps (pivot G q) d) ∙ eqb-true (getD q (pivot G q) 0) 1 own in
             absurd (true≢false (sym (eq-eqb (getD p (pivot G q) 0) 1 e) ∙ least-first (G .size) (is 1 p) (pivot G q) l))
 
@@ -153,11 +150,8 @@ module _ (G : Graph) (loopless : (u : ℕ) → u < G .size → G .joined u u ≡
         ∙ f .1)
 
     module _ (t : has 1 p ≡ true) where
-      pivot-is : (pivot G p < G .size) × (is 1 p (pivot G p) ≡ true)
-      pivot-is = pivot-taken G p (fit .0) t
-
       pivot-in : In G (takenSet G q) (vertexAt G (pivot G p))
-      pivot-in = (vertex-at G (pivot G p) (pivot-is .0) .0, taken-in (pivot G p) (pivot-is .0) (pivot-is .1))
+      pivot-in = (vertex-at G (pivot G p) (pivot-taken G p (fit .0) t .0) .0, taken-in (pivot G p) (pivot-taken G p (fit .0) t .0) (pivot-taken G p (fit .0) t .1))
 
       -- no member has a lower rank than the pivot
       pivot-lowest : (u : ℕ) → In G (takenSet G q) u → pivot G p ≤ rankOf G u
@@ -168,7 +162,7 @@ module _ (G : Graph) (loopless : (u : ℕ) → u < G .size → G .joined u u ≡
           go (inr (inl e)) = omega arith
           go (inr (inr l)) = omega arith
           go (inl l) =
-              let one = eqb-true (getD p (pivot G p) 0) 1 (pivot-is .1) in
+              let one = eqb-true (getD p (pivot G p) 0) 1 (pivot-taken G p (fit .0) t .1) in
               let d = decided-below p (fit .1) (rankOf G u) (pivot G p) l (λ z. omega arith) in
               let e = sym (cm .keeps (rankOf G u) d) ∙ eqb-true (getD q (rankOf G u) 0) 1 (h .1) in
               absurd (true≢false (sym (eq-eqb (getD p (rankOf G u) 0) 1 e) ∙ least-first (G .size) (is 1 p) (rankOf G u) l))
@@ -188,7 +182,7 @@ module _ (G : Graph) (loopless : (u : ℕ) → u < G .size → G .joined u u ≡
           not-isolated G loopless (takenSet G q) (i .clique) notion c
           (λ u h under.
           let x = vertexAt G (pivot G p) in
-          let r = vertex-at G (pivot G p) (pivot-is .0) .1 in
+          let r = vertex-at G (pivot G p) (pivot-taken G p (fit .0) t .0) .1 in
           let low = pivot-lowest u h in
           let d = rank-degree G x u (h .0) (omega arith) in
           let m = outside-mono G loopless (takenSet G q) (i .clique) x u pivot-in h d in
