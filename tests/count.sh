@@ -13,6 +13,13 @@ fail() {
     echo "error: $*"
 }
 
+# try WHAT COMMAND...: one test, passed where the command succeeds
+try() {
+    local what=$1
+    shift
+    if "$@"; then pass; else fail "$what"; fi
+}
+
 # The last line; the status is 0 only where something passed and nothing failed.
 finish() {
     echo "$passed passed, $failed failed"
