@@ -69,17 +69,6 @@ unfoldable pub joinedAll : Graph → ℕ → List ℕ → Bool
 joinedAll G v [] = true
 joinedAll G v (u ∷ us) = let rest = joinedAll G v us in G .joined v u && rest
 
--- Document 01, "Forms to follow in each place": the recursive search over common neighbours for a larger isolated clique, the candidates left falling. A candidate is added
--- where it is joined to those added so far, or passed over. k, sum, least and largest are of the members with those added.
-unfoldable pub findLarger : Graph → ℕ → Factor → List ℕ → ℕ → ℕ → ℕ → ℕ → List ℕ → Bool
-findLarger G notion c added k sum least largest [] = false
-findLarger G notion c added k sum least largest (v ∷ vs) =
-    let d = degree G v in
-    let here = isolatedBy notion c (k + 1) (sum + d) (min least d) (max largest d) in
-    let deeper = findLarger G notion c (added ++ (v ∷ [])) (k + 1) (sum + d) (min least d) (max largest d) vs in
-    let rest = findLarger G notion c added k sum least largest vs in
-    (joinedAll G v added && (here || deeper)) || rest
-
 -- No superset of k members within r further candidates is isolated: each of the k loses at most k + r - 1 of its degree to the set, and a further
 -- member's outside count is at least 0. Under min nothing is said.
 unfoldable pub hopeless : ℕ → Factor → ℕ → ℕ → ℕ → ℕ → Bool
@@ -87,15 +76,25 @@ hopeless zero c k r sum largest = false
 hopeless (suc zero) c k r sum largest = not (within c (k + r) (sum - k * (k + r - 1)))
 hopeless (suc (suc m)) c k r sum largest = not (within c 1 (largest - (k + r - 1)))
 
--- the search that leaves a hopeless branch
-unfoldable pub findCut : Graph → ℕ → Factor → List ℕ → ℕ → ℕ → ℕ → ℕ → List ℕ → Bool
-findCut G notion c added k sum least largest [] = false
-findCut G notion c added k sum least largest (v ∷ vs) =
+-- Document 01, "Forms to follow in each place": the recursive search over common neighbours for a larger isolated clique, the candidates left falling. A candidate is added
+-- where it is joined to those added so far, or passed over. k, sum, least and largest are of the members with those added. A branch is left where the test
+-- says so, of k, the number of candidates left, sum and largest.
+unfoldable pub find : (ℕ → ℕ → ℕ → ℕ → Bool) → Graph → ℕ → Factor → List ℕ → ℕ → ℕ → ℕ → ℕ → List ℕ → Bool
+find leaves G notion c added k sum least largest [] = false
+find leaves G notion c added k sum least largest (v ∷ vs) =
     let d = degree G v in
     let here = isolatedBy notion c (k + 1) (sum + d) (min least d) (max largest d) in
-    let deeper = findCut G notion c (added ++ (v ∷ [])) (k + 1) (sum + d) (min least d) (max largest d) vs in
-    let rest = findCut G notion c added k sum least largest vs in
-    not (hopeless notion c k (length (v ∷ vs)) sum largest) && ((joinedAll G v added && (here || deeper)) || rest)
+    let deeper = find leaves G notion c (added ++ (v ∷ [])) (k + 1) (sum + d) (min least d) (max largest d) vs in
+    let rest = find leaves G notion c added k sum least largest vs in
+    not (leaves k (length (v ∷ vs)) sum largest) && ((joinedAll G v added && (here || deeper)) || rest)
+
+-- the search that leaves no branch
+abbrev pub findLarger : Graph → ℕ → Factor → List ℕ → ℕ → ℕ → ℕ → ℕ → List ℕ → Bool
+findLarger = find (λ k r sum largest. false)
+
+-- the search that leaves a hopeless branch
+abbrev pub findCut : Graph → ℕ → Factor → List ℕ → ℕ → ℕ → ℕ → ℕ → List ℕ → Bool
+findCut G notion c = find (hopeless notion c) G notion c
 
 -- v stands in the list
 abbrev pub Listed : ℕ → List ℕ → Type 0

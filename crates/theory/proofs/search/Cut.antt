@@ -12,7 +12,7 @@ use Rattle.model.specs.Below.{count, total}
 use Rattle.model.specs.Graph.{Graph, degree}
 use Rattle.model.specs.Groups.{Factor, VertexSet, sizeOf, outside, outgoing, with-vertex}
 use Rattle.model.specs.Meaning.{In, Clique}
-use Rattle.theory.specs.Search.{Loopless, Symmetric, Tally, degreeSum, largestDegree, isolatedBy, joinedAll, findLarger, hopeless, findCut, Listed, Candidates}
+use Rattle.theory.specs.Search.{Loopless, Symmetric, Tally, degreeSum, largestDegree, isolatedBy, joinedAll, findLarger, hopeless, find, findCut, Listed, Candidates}
 use Rattle.theory.proofs.basics.Tests.{test-not, trichotomy, fails, passes-or-fails}
 use Rattle.theory.proofs.basics.Counting.{count-sub}
 use Rattle.theory.proofs.graph.Factor.{under-test, under-mono, under-wider}
@@ -129,7 +129,7 @@ module _ (G : Graph) (loopless : Loopless G) (symmetric : Symmetric G) (notion :
   -- so the search that leaves it says the same
   pub cut-same : (vs : List ℕ) (T : VertexSet) (added : List ℕ) (k sum least largest : ℕ) → Ready G T added k sum least largest vs
       → findCut G notion c added k sum least largest vs ≡ findLarger G notion c added k sum least largest vs
-  unfolding findLarger findCut
+  unfolding find
   cut-same [] T added k sum least largest r = refl
   cut-same (v ∷ vs) T added k sum least largest r =
       go (hopeless notion c k (length (v ∷ vs)) sum largest) refl

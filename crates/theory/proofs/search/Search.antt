@@ -9,7 +9,7 @@ use native.Mathlib.Omega.{arith}
 use Rattle.model.specs.Graph.{Graph, degree}
 use Rattle.model.specs.Groups.{Factor, VertexSet, isolated, larger, with-vertex, isolatedClique, someLarger, rival}
 use Rattle.model.specs.Meaning.{In, Clique, Isolated, IsolatedClique, Larger}
-use Rattle.theory.specs.Search.{Loopless, Symmetric, JoinsAll, Tally, isolatedBy, joinedAll, findLarger, Listed, Candidates}
+use Rattle.theory.specs.Search.{Loopless, Symmetric, JoinsAll, Tally, isolatedBy, joinedAll, find, findLarger, Listed, Candidates}
 use Rattle.theory.proofs.basics.Tests.{Test, test-agree, test-and, test-or, test-self, passes-or-fails}
 use Rattle.theory.proofs.graph.Meaning.{isolated-test, larger-test, isolated-same, rivals, rivals-test}
 use Rattle.theory.proofs.graph.Cliques.{with-test, same-vertex, joins-new, joins-larger, further-joins, further-common}
@@ -29,7 +29,7 @@ Finds G notion c vs = (T : VertexSet) (added : List ℕ) (k sum least largest : 
     → Test (findLarger G notion c added k sum least largest vs) (Beyond G notion c T vs)
 
 finds-none : (G : Graph) (notion : ℕ) (c : Factor) → Finds G notion c []
-unfolding Finds findLarger
+unfolding Finds find
 finds-none G notion c T added k sum least largest r = (
   λ e. absurd (false≢true e),
   λ b. absurd (none b (b .listed (b .exceeds .further .0) (b .exceeds .further .1))),
@@ -192,7 +192,7 @@ module _ (G : Graph) (loopless : Loopless G) (symmetric : Symmetric G) (notion :
             inl (joins .1 j, add e j (passes-or-fails (larger G (b .set) more)))
 
     finds-step : Test (findLarger G notion c added k sum least largest (v ∷ vs)) (Beyond G notion c T (v ∷ vs))
-    unfolding findLarger here deeper
+    unfolding find here deeper
     finds-step = (λ e. finds-there (ways .0 e), λ b. ways .1 (finds-back b))
       where
         ways : Test ((joinedAll G v added && (here || deeper)) || findLarger G notion c added k sum least largest vs)

@@ -9,7 +9,7 @@ use lib.ListN.{length, getD, drop, length-drop, drop-of-length-le}
 use lib.Seq.{drop-cons}
 use Rattle.model.specs.Graph.{Graph, degree}
 use Rattle.model.specs.Groups.{Factor}
-use Rattle.theory.specs.Search.{isolatedBy, joinedAll, findLarger, hopeless, findCut}
+use Rattle.theory.specs.Search.{isolatedBy, joinedAll, findLarger, hopeless, find, findCut}
 
 -- one candidate: a, it is joined to those added; h, the set with it is isolated; d, the search finds more with it; r, the search finds more without it
 module _ (a h d r : Bool) where
@@ -29,7 +29,7 @@ module _ (a h d r : Bool) where
 module _ (G : Graph) (notion : ℕ) (c : Factor) (added : List ℕ) (k sum least largest : ℕ) (vs : List ℕ) (i : ℕ) where
   -- past the last candidate nothing is found
   pub cut-end : length vs ≤ i → findCut G notion c added k sum least largest (drop i vs) ≡ false
-  unfolding findCut
+  unfolding find
   cut-end h = rw (drop-of-length-le vs h)
 
   module _ (inside : i < length vs) where
@@ -52,7 +52,7 @@ module _ (G : Graph) (notion : ℕ) (c : Factor) (added : List ℕ) (k sum least
     pub cut-at : findCut G notion c added k sum least largest (drop i vs)
         ≡ (not (hopeless notion c k (length vs - i) sum largest)
         && ((joinedAll G candidate added && (here || deeper)) || findCut G notion c added k sum least largest (drop (i + 1) vs)))
-    unfolding findCut
+    unfolding find
     cut-at =
         ap (λ (l : List ℕ). findCut G notion c added k sum least largest l) first
         ∙ ap (λ (r : ℕ). not (hopeless notion c k r sum largest)
