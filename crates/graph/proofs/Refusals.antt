@@ -1,7 +1,7 @@
 -- The refusals of a table as a search over it finds them, and what an accepted table has.
 -- Assumes nothing.
 use Prim.Native.Nat.{ℕ, zero, suc, _*_, _≤_, _<_}
-use mathlib.Core.Path.{_≡_, refl, sym, _∙_}
+use mathlib.Core.Path.{_≡_, refl}
 use mathlib.Core.Bool.{Bool, true, false, _||_, not, Bool·beq, true≢false}
 use mathlib.Core.List.{List, [], _∷_}
 use mathlib.Core.Logic.{_⊎_, inl, inr}
@@ -13,18 +13,10 @@ use borrow.Author.Tests.{lt-ltb, le-ltb, ltb-false, eqb-true, not-false}
 use Rattle.model.specs.Below.{any}
 use Rattle.model.specs.Graph.{Graph, onVertices, byTable}
 use Rattle.model.specs.Calls.{refuse, over, looped, oneWay, refuseTable}
-use Rattle.theory.proofs.basics.Tests.{test-self, test-any, fails, trichotomy}
+use Rattle.theory.proofs.basics.Gates.{Gate, gate-one, gate-then}
+use Rattle.theory.proofs.basics.Tests.{test-self, test-any, any-found, any-none, any-each, trichotomy}
+use Rattle.theory.proofs.calls.PageAccepted.{refuse-pass}
 use Rattle.graph.specs.Table.{TableFits, differ}
-
--- a search below n: what it finds, and that it finds nothing
-pub any-found : (n : ℕ) (p : ℕ → Bool) (i : ℕ) → i < n → p i ≡ true → any n p ≡ true
-any-found n p i h e = test-any n p (λ k. test-self) .1 (i, h, e)
-
-pub any-none : (n : ℕ) (p : ℕ → Bool) → ((i : ℕ) → i < n → p i ≡ false) → any n p ≡ false
-any-none n p f = fails (any n p) (λ e. let r = test-any n p (λ k. test-self) .0 e in true≢false (sym (r .2) ∙ f (r .0) (r .1)))
-
-pub any-each : (n : ℕ) (p : ℕ → Bool) → any n p ≡ false → (i : ℕ) → i < n → p i ≡ false
-any-each n p e i h = fails (p i) (λ q. true≢false (sym (any-found n p i h q) ∙ e))
 
 -- refusal 3: a byte that is over m, and none
 pub over-found : (m : ℕ) (bs : List ℕ) (i : ℕ) → i < length bs → m < getD bs i 0 → over m bs ≡ true
@@ -79,28 +71,6 @@ module _ (G : Graph) where
 abbrev pub five : Bool → Bool → Bool → Bool → Bool → ℕ → ℕ
 five a b c d e later = refuse 1 a (refuse 2 b (refuse 3 c (refuse 4 d (refuse 5 e later))))
 
-five-pass : (a b c d e : Bool) → five a b c d e 0 ≡ 0 → (a ≡ false) × (b ≡ false) × (c ≡ false) × (d ≡ false) × (e ≡ false)
-unfolding refuse
-five-pass true b c d e h = absurd (omega arith)
-five-pass false true c d e h = absurd (omega arith)
-five-pass false false true d e h = absurd (omega arith)
-five-pass false false false true e h = absurd (omega arith)
-five-pass false false false false true h = absurd (omega arith)
-five-pass false false false false false h = (refl, refl, refl, refl, refl)
-
-five-later : (a b c d e : Bool) (later : ℕ) → five a b c d e 0 ≡ 0 → five a b c d e later ≡ later
-unfolding refuse
-five-later a b c d e later h = let p = five-pass a b c d e h in rw (p .0, p .1, p .2, p .3, p .4)
-
-five-fault : (a b c d e : Bool) (later : ℕ) → (five a b c d e 0 ≡ 0 → ⊥) → five a b c d e later ≡ five a b c d e 0
-unfolding refuse
-five-fault true b c d e later h = refl
-five-fault false true c d e later h = refl
-five-fault false false true d e later h = refl
-five-fault false false false true e later h = refl
-five-fault false false false false true later h = refl
-five-fault false false false false false later h = absurd (h refl)
-
 -- what an accepted table has
 pub record TableAccepted (n : ℕ) (t : List ℕ) : Type 0 where
   pub fits : TableFits n t
@@ -108,32 +78,34 @@ pub record TableAccepted (n : ℕ) (t : List ℕ) : Type 0 where
   pub no-loop : (u : ℕ) → u < n → byTable n t .joined u u ≡ false
   pub both-ways : (u v : ℕ) → u < n → v < n → byTable n t .joined u v ≡ byTable n t .joined v u
 
+-- the refusal number by the outcome of each test
+pub refusal-by : (n : ℕ) (t : List ℕ) {a b c d e : Bool} → ltb 1024 n ≡ a → not (eqb (length t) (n * n)) ≡ b → over 1 t ≡ c → looped (byTable n t) ≡ d
+    → oneWay (byTable n t) ≡ e → five a b c d e 0 ≡ refuseTable n t 0
+unfolding refuseTable
+refusal-by n t p q r s o = rw (p, q, r, s, o)
+
 module _ (n : ℕ) (t : List ℕ) where
-  -- the refusal number by the outcome of each test
-  pub refusal-by : {a b c d e : Bool} → ltb 1024 n ≡ a → not (eqb (length t) (n * n)) ≡ b → over 1 t ≡ c → looped (byTable n t) ≡ d
-      → oneWay (byTable n t) ≡ e → five a b c d e 0 ≡ refuseTable n t 0
+  -- the later tests decide where the table is accepted, and the table decides where it is not
+  pub table-gate : Gate (refuseTable n t)
   unfolding refuseTable
-  refusal-by p q r s o = rw (p, q, r, s, o)
-
-  -- the later tests decide where the table is accepted
-  pub table-later : (later : ℕ) → refuseTable n t 0 ≡ 0 → refuseTable n t later ≡ later
-  unfolding refuseTable
-  table-later later = five-later (ltb 1024 n) (not (eqb (length t) (n * n))) (over 1 t) (looped (byTable n t)) (oneWay (byTable n t)) later
-
-  -- and the table decides where it is not
-  pub table-refused : (later : ℕ) → (refuseTable n t 0 ≡ 0 → ⊥) → refuseTable n t later ≡ refuseTable n t 0
-  unfolding refuseTable
-  table-refused later = five-fault (ltb 1024 n) (not (eqb (length t) (n * n))) (over 1 t) (looped (byTable n t)) (oneWay (byTable n t)) later
+  table-gate =
+      gate-then (refuse 1 _) _ (gate-one 0 (ltb 1024 n))
+      (gate-then (refuse 2 _) _ (gate-one 1 (not (eqb (length t) (n * n))))
+      (gate-then (refuse 3 _) _ (gate-one 2 (over 1 t)) (gate-then (refuse 4 _) _ (gate-one 3 (looped (byTable n t))) (gate-one 4 (oneWay (byTable n t))))))
 
   pub table-accepted : refuseTable n t 0 ≡ 0 → TableAccepted n t
   unfolding refuseTable looped oneWay byTable onVertices
   table-accepted h =
-      let p = five-pass (ltb 1024 n) (not (eqb (length t) (n * n))) (over 1 t) (looped (byTable n t)) (oneWay (byTable n t)) h in
+      let size = refuse-pass 0 _ _ h in
+      let whole = refuse-pass 1 _ _ (size .1) in
+      let bytes = refuse-pass 2 _ _ (whole .1) in
+      let loops = refuse-pass 3 _ _ (bytes .1) in
+      let ways = refuse-pass 4 _ _ (loops .1) in
       record {
-        fits = record { small = ltb-false 1024 n (p .0); whole = eqb-true (length t) (n * n) (not-false _ (p .1)) };
-        bits = p .2;
-        no-loop = any-each n (λ u. byTable n t .joined u u) (p .3);
-        both-ways = λ u v hu hv. same _ _ (any-each n (differ (byTable n t) u) (any-each n (λ w. any n (differ (byTable n t) w)) (p .4) u hu) v hv);
+        fits = record { small = ltb-false 1024 n (size .0); whole = eqb-true (length t) (n * n) (not-false _ (whole .0)) };
+        bits = bytes .0;
+        no-loop = any-each n (λ u. byTable n t .joined u u) (loops .0);
+        both-ways = λ u v hu hv. same _ _ (any-each n (differ (byTable n t) u) (any-each n (λ w. any n (differ (byTable n t) w)) (ways .0) u hu) v hv);
       }
     where
       same : (a b : Bool) → not (Bool·beq a b) ≡ false → a ≡ b

@@ -1,3 +1,3 @@
--- Laws.
-pub mod Numbers
+-- The laws that the proofs of this crate, and of the calls above it, cite: the tests by notion, and the refusals of settings and of a set query.
+pub mod Notions
 pub mod Refusals

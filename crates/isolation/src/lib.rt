@@ -1,4 +1,4 @@
-// The isolation test over a set's numbers.
+// The settings of a call, and the isolation test over a set's numbers.
 ghost use mathlib.Core.Path.{_≡_};
 ghost use Prim.Native.Nat.{_+_, _-_, _*_, _<_, _≤_, min, max};
 ghost use Rattle.model.specs.Groups.{within};
@@ -21,7 +21,7 @@ pub struct Tally {
     pub largest: usize,
 }
 
-// The refusal number of any settings: 6 to 8, and 0 where all three tests pass.
+// The refusal number of any settings: 6 to 8 of document 01, "Turned back by the input", lowest number first, and 0 where all three tests pass.
 pub fn settings_refusal(s: Settings) -> u32
     ensures { λ r. ⌜ r ≡ refuseSettings (settingsOf s) 0 ⌝ }
 {
@@ -61,7 +61,7 @@ fn larger(a: usize, b: usize) -> usize
     if a < b { b } else { a }
 }
 
-// Whether x is less than c × k: the one comparison with the factor.
+// Whether x is less than c × k: the one comparison with the factor. Document 002, section 2.1: "less than", never "at most".
 fn within(c: u32, k: usize, x: usize) -> bool
     requires { ⌜ (c ≤ 1024) × (k ≤ 1024) ⌝ }
     ensures { λ r. ⌜ r ≡ within c k x ⌝ }
@@ -70,7 +70,8 @@ fn within(c: u32, k: usize, x: usize) -> bool
     x < bound
 }
 
-// The isolation test of a clique with the numbers t.
+// The isolation test of a clique with the numbers t, a member of degree d having d - (k - 1) neighbours outside the k members. Document 002, section
+// 2.1: min (0), at least one member has less than c of them; avg (1), there are less than c × k in all; max (2), every member has less than c.
 pub fn isolated_by(s: Settings, t: Tally) -> bool
     requires { ⌜ Small s (t .members) ⌝ }
     ensures { λ r. ⌜ r ≡ isolatedOf s t ⌝ }
@@ -85,7 +86,8 @@ pub fn isolated_by(s: Settings, t: Tally) -> bool
     within(s.factor, 1, less(t.largest, others))
 }
 
-// Whether no superset of a set with the numbers t, within r further candidates, is isolated. Under min it says no.
+// Whether no superset of a set with the numbers t, within r further candidates, is isolated: each member loses at most r more of its neighbours outside.
+// Under min it says no.
 pub fn hopeless(s: Settings, t: Tally, r: usize) -> bool
     requires { ⌜ Small s (t .members + r) ⌝ }
     ensures { λ h. ⌜ h ≡ hopelessOf s t r ⌝ }

@@ -1,4 +1,4 @@
-// The search for a larger isolated clique.
+// The search for a larger isolated clique, and whether a clique is maximal of its kind.
 ghost use mathlib.Core.Path.{_≡_};
 ghost use Prim.Native.Nat.{_+_, _-_, _*_, _<_, _≤_, min, max};
 ghost use lib.ListN.{length};
@@ -34,6 +34,8 @@ pub fn joined_to_all(table: &[u8], n: usize, work: &[u16], v: usize, from: usize
 // Searches for a larger isolated clique. The members, with the numbers y, stand in part 1 of work; those from place base on were added by the
 // search, and candidates i to m - 1 of part 3 are left. A candidate that is joined to those added is added, and the candidates after it are
 // searched; else, and after that, it is passed over. Reads the table and the degrees in part 1 of ranks; writes part 1 of work past the members.
+// Document 000, section 3.2, screens under max without it, by a clique of x + 1 common neighbours of degree at most size + c + x; that drops groups that
+// are maximal, since x + 2 are needed, so the larger set's own isolation test decides here.
 fn search(
     table: &[u8],
     ranks: &[u16],
@@ -73,9 +75,10 @@ fn search(
     false
 }
 
-// Whether a clique with the numbers y is not maximal of its kind, where the first m entries of part 3 of work are its common neighbours. Kind 0 with
-// avg or max is searched for; for kind 1, and for min, a common neighbour decides. Reads the table and the degrees in part 1 of ranks; writes part 1
-// of work past the members, whose entries it does not read.
+// Whether a clique with the numbers y is not maximal of its kind, where the first m entries of part 3 of work are its common neighbours. Document 002,
+// definition 2 (kind 0): a larger isolated clique is searched for under avg and max; definition 1 (kind 1): a larger clique, so a common neighbour
+// decides, and under min it decides for both kinds (section 2.1). Reads the table and the degrees in part 1 of ranks; writes part 1 of work past the
+// members, whose entries it does not read.
 pub fn beaten(
     table: &[u8],
     ranks: &[u16],

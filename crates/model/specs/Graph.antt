@@ -26,11 +26,12 @@ unfoldable pub degree : Graph → ℕ → ℕ
 degree G u = count (G .size) (G .joined u)
 
 -- Document 01, "Graph and ranks": rank 0 is the vertex of least degree, and equal degrees go by smaller vertex number. So u comes before v
--- where it has the smaller degree, or the same degree and the smaller number
+-- where it has the smaller degree, or the same degree and the smaller number. Documents 000, section 2, and 002, section 2.2, sort by degree too and
+-- leave equal degrees open
 unfoldable pub before : Graph → ℕ → ℕ → Bool
 before G u v = ltb (degree G u) (degree G v) || (eqb (degree G u) (degree G v) && ltb u v)
 
--- the rank of v: how many vertices come before it
+-- the rank of v: how many vertices come before it; its index in documents 000, section 2, and 002, section 2.2
 unfoldable pub rankOf : Graph → ℕ → ℕ
 rankOf G v = count (G .size) (λ u. before G u v)
 

@@ -47,7 +47,7 @@ outside G S u = count (G .size) (λ v. G .joined u v && not (S v))
 unfoldable pub isolatedMin : Graph → Factor → VertexSet → Bool
 isolatedMin G c S = any (G .size) (λ u. S u && within c 1 (outside G S u))
 
--- the outside counts of the members, summed: the outgoing edges
+-- the outside counts of the members, summed: the outgoing edges of document 002, section 2.1
 unfoldable pub outgoing : Graph → VertexSet → ℕ
 outgoing G S = total (G .size) (λ u. cond (S u) (outside G S u) 0)
 
@@ -59,7 +59,7 @@ isolatedAvg G c S = within c (sizeOf G S) (outgoing G S)
 unfoldable pub isolatedMax : Graph → Factor → VertexSet → Bool
 isolatedMax G c S = all (G .size) (λ u. implies (S u) (within c 1 (outside G S u)))
 
--- isolated in the chosen notion
+-- isolated in the chosen notion, one of the three of document 002, section 2.1
 unfoldable pub isolated : Graph → ℕ → Factor → VertexSet → Bool
 isolated G zero c S = isolatedMin G c S
 isolated G (suc zero) c S = isolatedAvg G c S

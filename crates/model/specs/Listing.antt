@@ -18,7 +18,8 @@ is x p r = eqb (getD p r 0) x
 unfoldable pub adjacent : Graph → ℕ → ℕ → Bool
 adjacent G r s = G .joined (vertexAt G r) (vertexAt G s)
 
--- Document 01, "Graph and ranks": the pivot of a set is its member of lowest rank, here as its rank
+-- Document 01, "Graph and ranks", and documents 000, section 2, and 002, section 2.2: the pivot of a set is its member of lowest rank, here as its
+-- rank
 unfoldable pub pivot : Graph → Position → ℕ
 pivot G p = least (G .size) (is 1 p)
 

@@ -1,4 +1,4 @@
-// The set query.
+// The set query: whether one set of vertices qualifies.
 ghost use mathlib.Core.Path.{_≡_};
 ghost use Prim.Native.Nat.{_+_, _-_, _*_, _<_, _≤_};
 ghost use lib.ListN.{length};
@@ -100,7 +100,8 @@ fn common_neighbours(table: &[u8], n: usize, work: &mut [u16], k: usize) -> usiz
     m
 }
 
-// The refusal number of a set query with a work slice of `length` entries: 1 to 11, and 0 where all tests pass. Reads the table and the set.
+// The refusal number of a set query with a work slice of `length` entries: 1 to 11 of document 01, "Turned back by the input", lowest number first, and
+// 0 where all tests pass. Reads the table and the set.
 fn query_refusal(table: &[u8], set: &[u8], length: usize, n: usize, s: Settings) -> u32
     ensures { λ r. ⌜ r ≡ refuseQuery n (now (table .entry)) (settingsOf s) (now (set .entry)) length ⌝ }
 {
@@ -125,8 +126,8 @@ fn query_refusal(table: &[u8], set: &[u8], length: usize, n: usize, s: Settings)
     0
 }
 
-// Whether the set qualifies, where the call is not refused and part 1 of ranks holds the degrees. Reads the table, the degrees and the set; writes parts 1
-// and 3 of work.
+// Whether the set qualifies, where the call is not refused and part 1 of ranks holds the degrees: document 002, definitions 1 and 2, a clique that is
+// isolated and that no larger one of its kind contains. Reads the table, the degrees and the set; writes parts 1 and 3 of work.
 fn set_qualifies(
     table: &[u8],
     ranks: &[u16],

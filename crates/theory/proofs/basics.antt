@@ -2,5 +2,6 @@
 pub mod Parts
 pub mod Tests
 pub mod Counting
+pub mod Gates
 pub mod Passing
 pub mod PassingParts

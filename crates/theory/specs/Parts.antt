@@ -2,10 +2,8 @@
 -- Assumes nothing.
 use Prim.Native.Nat.{ℕ, _+_, _≤_, _<_}
 use mathlib.Core.Path.{_≡_}
-use mathlib.Core.Bool.{Bool}
 use mathlib.Core.List.{List}
 use lib.ListN.{length, getD, take, drop}
-use Rattle.model.specs.Below.{passing}
 
 -- k entries from entry a on
 abbrev pub part : List ℕ → ℕ → ℕ → List ℕ
@@ -20,13 +18,6 @@ pub record Kept (a b : ℕ) (before after : List ℕ) : Type 0 where
 -- k entries from entry a on are vertices of a graph of n
 abbrev pub HoldsVertices : ℕ → List ℕ → ℕ → ℕ → Type 0
 HoldsVertices n w a k = (i : ℕ) → i < k → getD w (a + i) 0 < n
-
--- after the numbers below n that pass p were written from entry a on, lowest first: k of them stand there, and every entry outside a to a + n - 1
--- is as it was
-pub record Written (a n : ℕ) (p : ℕ → Bool) (before after : List ℕ) (k : ℕ) : Type 0 where
-  pub listed : part after a k ≡ passing n p
-  pub few : k ≤ n
-  pub kept : Kept a (a + n) before after
 
 -- a loop has written the k entries of the list l from entry a on, and every entry outside a to b - 1 is as it was
 pub record Listed (a b : ℕ) (l before after : List ℕ) (k : ℕ) : Type 0 where

@@ -1,7 +1,7 @@
--- `query::hopeless` meets its contract: a test for each notion.
+-- `isolation::hopeless` meets its contract: a test for each notion.
 -- Assumes nothing.
 use native.Mathlib.Omega.{arith}
-use Rattle.isolation.proofs.Numbers.{product-small, hopeless-min, hopeless-avg, hopeless-max}
+use Rattle.isolation.proofs.Notions.{product-small, hopeless-min, hopeless-avg, hopeless-max}
 use borrow.Author.Needs.{needs}
 use Rattle.isolation.proofs.hopeless.Statement.{statement}
 use Rattle.isolation.proofs.hopeless.Tie as tie

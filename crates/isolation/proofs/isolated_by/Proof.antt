@@ -1,7 +1,7 @@
--- `query::isolated_by` meets its contract: a test for each notion.
+-- `isolation::isolated_by` meets its contract: a test for each notion.
 -- Assumes nothing.
 use native.Mathlib.Omega.{arith}
-use Rattle.isolation.proofs.Numbers.{product-small, isolated-min, isolated-avg, isolated-max}
+use Rattle.isolation.proofs.Notions.{product-small, isolated-min, isolated-avg, isolated-max}
 use borrow.Author.Needs.{needs}
 use Rattle.isolation.proofs.isolated_by.Statement.{statement}
 use Rattle.isolation.proofs.isolated_by.Tie as tie

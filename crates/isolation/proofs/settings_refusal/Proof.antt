@@ -1,4 +1,4 @@
--- `query::settings_refusal` meets its contract: each return goes by the tests that led there.
+-- `isolation::settings_refusal` meets its contract: each return goes by the tests that led there.
 -- Assumes nothing.
 use mathlib.Core.Path.{refl, ap, ap₂}
 use mathlib.Core.Bool.{Bool, _||_}

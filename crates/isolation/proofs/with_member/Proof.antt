@@ -1,4 +1,4 @@
--- `query::with_member` meets its contract.
+-- `isolation::with_member` meets its contract.
 -- Assumes nothing.
 use borrow.Author.Needs.{needs}
 use Rattle.isolation.proofs.with_member.Statement.{statement}

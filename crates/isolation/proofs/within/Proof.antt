@@ -1,7 +1,7 @@
--- `query::within` meets its contract.
+-- `isolation::within` meets its contract.
 -- Assumes nothing.
 use native.Mathlib.Omega.{arith}
-use Rattle.isolation.proofs.Numbers.{product-small}
+use Rattle.isolation.proofs.Notions.{product-small}
 use borrow.Author.Needs.{needs}
 use Rattle.isolation.proofs.within.Statement.{statement}
 use Rattle.isolation.proofs.within.Tie as tie

@@ -1,4 +1,4 @@
--- `query::search` meets its contract: at each candidate the search says of those from it on what it says of all. The candidates left fall.
+-- `larger::search` meets its contract: at each candidate the search says of those from it on what it says of all. The candidates left fall.
 -- Assumes nothing.
 use Prim.Native.Nat.{ℕ, _+_, _-_, _*_, _<_}
 use mathlib.Core.Path.{sym, ap, _∙_}

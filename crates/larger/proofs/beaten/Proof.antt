@@ -1,4 +1,4 @@
--- `query::beaten` meets its contract: a return for each way to decide.
+-- `larger::beaten` meets its contract: a return for each way to decide.
 -- Assumes nothing.
 use mathlib.Core.Path.{refl}
 use Rattle.larger.proofs.Maximal.{posed-room, by-search, by-kind, by-min}

@@ -1,4 +1,4 @@
--- `query::joined_to_all` meets its contract: v is joined to each vertex that was passed.
+-- `larger::joined_to_all` meets its contract: v is joined to each vertex that was passed.
 -- Assumes nothing.
 use Prim.Native.Nat.{_+_, _-_, _≤_}
 use mathlib.Core.Path.{_≡_, sym, _∙_}

@@ -7,7 +7,7 @@ use native.Mathlib.Omega.{arith}
 use borrow.Author.Tests.{eq-eqb, ne-eqb}
 use borrow.Author.Count.{below-more}
 use Rattle.model.specs.Graph.{byTable}
-use Rattle.graph.proofs.Refusals.{any-found, any-none}
+use Rattle.theory.proofs.basics.Tests.{any-found, any-none}
 use Rattle.position.specs.Position.{stranger, apartAt}
 use borrow.Author.Needs.{needs}
 use Rattle.position.proofs.is_apart_at.Statement.{statement}

@@ -107,10 +107,11 @@ any-there (suc n) p e = go (p n) refl e (any-there n p)
     go true q e f = (n, lt-suc-self n, q)
     go false q e f = let r = f e in (r .0, le-trans (r .1) (le-suc n), r .2)
 
-any-back : (n : ℕ) (p : ℕ → Bool) (i : ℕ) → i < n → p i ≡ true → any n p ≡ true
+-- a number that passes is found
+pub any-found : (n : ℕ) (p : ℕ → Bool) (i : ℕ) → i < n → p i ≡ true → any n p ≡ true
 unfolding any
-any-back zero p i h e = absurd (not-suc-le-zero h)
-any-back (suc n) p i h e = last-or-below h (λ q. here (p n) (ap p (sym q) ∙ e)) (λ l. deeper (p n) (any-back n p i l e))
+any-found zero p i h e = absurd (not-suc-le-zero h)
+any-found (suc n) p i h e = last-or-below h (λ q. here (p n) (ap p (sym q) ∙ e)) (λ l. deeper (p n) (any-found n p i l e))
   where
     here : (b : Bool) → b ≡ true → (b || any n p) ≡ true
     here true q = refl
@@ -122,7 +123,7 @@ any-back (suc n) p i h e = last-or-below h (λ q. here (p n) (ap p (sym q) ∙ e
 
 -- some number below n
 pub test-any : (n : ℕ) (p : ℕ → Bool) {P : ℕ → Type 0} → ((i : ℕ) → Test (p i) (P i)) → Test (any n p) ((i : ℕ) × (i < n) × P i)
-test-any n p t = (λ e. let r = any-there n p e in (r .0, r .1, t (r .0) .0 (r .2)), λ r. any-back n p (r .0) (r .1) (t (r .0) .1 (r .2)))
+test-any n p t = (λ e. let r = any-there n p e in (r .0, r .1, t (r .0) .0 (r .2)), λ r. any-found n p (r .0) (r .1) (t (r .0) .1 (r .2)))
 
 all-there : (n : ℕ) (p : ℕ → Bool) → all n p ≡ true → (i : ℕ) → i < n → p i ≡ true
 unfolding all
@@ -228,6 +229,18 @@ and-right false b e = absurd (false≢true e)
 pub fails : (a : Bool) → (a ≡ true → ⊥) → a ≡ false
 fails true f = absurd (f refl)
 fails false f = refl
+
+-- one of two tests that both fail: the second
+pub or-second : (a b : Bool) → (a || b) ≡ false → b ≡ false
+or-second true b e = absurd (true≢false e)
+or-second false b e = e
+
+-- where no number passes none is found, and where none is found each fails
+pub any-none : (n : ℕ) (p : ℕ → Bool) → ((i : ℕ) → i < n → p i ≡ false) → any n p ≡ false
+any-none n p f = fails (any n p) (λ e. let r = any-there n p e in true≢false (sym (r .2) ∙ f (r .0) (r .1)))
+
+pub any-each : (n : ℕ) (p : ℕ → Bool) → any n p ≡ false → (i : ℕ) → i < n → p i ≡ false
+any-each n p e i h = fails (p i) (λ q. true≢false (sym (any-found n p i h q) ∙ e))
 
 -- a test passes or fails
 pub passes-or-fails : (a : Bool) → (a ≡ true) ⊎ (a ≡ false)

@@ -7,7 +7,7 @@ use mathlib.Core.Logic.{⊎-elim}
 use native.Mathlib.Omega.{arith}
 use lib.ListN.{getD}
 use Rattle.model.specs.Graph.{byTable}
-use Rattle.graph.proofs.Refusals.{any-found, any-none}
+use Rattle.theory.proofs.basics.Tests.{any-found, any-none}
 use Rattle.walk.proofs.Lists.{lt-or-ge}
 use borrow.Author.Needs.{needs}
 use Rattle.walk.proofs.misses_one.Statement.{statement}
