@@ -1,2 +1,2 @@
--- Specs.
+-- What the search for a larger isolated clique, and the test for being maximal, require and leave behind.
 pub mod Search

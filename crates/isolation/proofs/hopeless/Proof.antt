@@ -13,11 +13,7 @@ less-requires : tie.Need-less-requires
 less-requires c κs = search needs
 
 returns : tie.Need-returns
-returns c =
-    let start = c .before .before .before .before in
-    let s = start .args .s in
-    let t = start .args .t in
-    hopeless-min (s .notion) (s .factor) (t .members) (start .args .r) (t .sum) (t .largest) (c .if1 .taken)
+returns c = hopeless-min _ _ _ _ _ _ (c .if1 .taken)
 
 mul-less : tie.Need-mul-less
 mul-less c =
@@ -37,10 +33,7 @@ returns-2 : tie.Need-returns-2
 returns-2 c =
     let avg = c .before .before .before in
     let others = avg .before .before .before .before in
-    let start = others .before .before in
-    let s = start .args .s in
-    let t = start .args .t in
-    hopeless-avg (s .notion) (s .factor) (t .members) (start .args .r) (t .sum) (t .largest) (avg .if2 .taken) (others .less .ensures)
+    hopeless-avg _ _ _ _ _ _ (avg .if2 .taken) (others .less .ensures)
     (c .before .less2 .ensures) (c .within .ensures)
 
 less-requires-3 : tie.Need-less-requires-3
@@ -54,10 +47,7 @@ returns-3 c =
     let max = c .before .before in
     let min = max .before .before in
     let others = min .before .before in
-    let start = others .before .before in
-    let s = start .args .s in
-    let t = start .args .t in
-    hopeless-max (s .notion) (s .factor) (t .members) (start .args .r) (t .sum) (t .largest) (min .if1 .left) (max .if2 .left)
+    hopeless-max _ _ _ _ _ _ (min .if1 .left) (max .if2 .left)
     (others .less .ensures) (c .before .less3 .ensures) (c .within2 .ensures)
 
 pub hopeless-spec : {M : Type 1} → statement M

@@ -19,10 +19,7 @@ returns : tie.Need-returns
 returns c =
     let min = c .before .before in
     let others = min .before .before in
-    let start = others .before in
-    let s = start .args .s in
-    let t = start .args .t in
-    isolated-min (s .notion) (s .factor) (t .members) (t .sum) (t .least) (t .largest) (min .if1 .taken) (others .less .ensures)
+    isolated-min _ _ _ _ _ _ (min .if1 .taken) (others .less .ensures)
     (c .before .less2 .ensures) (c .within .ensures)
 
 mul-less : tie.Need-mul-less
@@ -43,10 +40,7 @@ returns-2 : tie.Need-returns-2
 returns-2 c =
     let avg = c .before .before .before in
     let others = avg .before .before .before .before in
-    let start = others .before in
-    let s = start .args .s in
-    let t = start .args .t in
-    isolated-avg (s .notion) (s .factor) (t .members) (t .sum) (t .least) (t .largest) (avg .if2 .taken) (others .less .ensures)
+    isolated-avg _ _ _ _ _ _ (avg .if2 .taken) (others .less .ensures)
     (c .before .less3 .ensures) (c .within2 .ensures)
 
 less-requires-4 : tie.Need-less-requires-4
@@ -60,10 +54,7 @@ returns-3 c =
     let max = c .before .before in
     let min = max .before .before in
     let others = min .before .before in
-    let start = others .before in
-    let s = start .args .s in
-    let t = start .args .t in
-    isolated-max (s .notion) (s .factor) (t .members) (t .sum) (t .least) (t .largest) (min .if1 .left) (max .if2 .left)
+    isolated-max _ _ _ _ _ _ (min .if1 .left) (max .if2 .left)
     (others .less .ensures) (c .before .less4 .ensures) (c .within3 .ensures)
 
 pub isolated-by-spec : {M : Type 1} → statement M

@@ -5,7 +5,7 @@ use mathlib.Core.Path.{sym, ap, _∙_}
 use native.Mathlib.Omega.{arith}
 use lib.ListN.{length-set}
 use Rattle.isolation.specs.declared.Tally.{Tally}
-use Rattle.larger.proofs.Turn.{At, at-start, at-end, at-hopeless, at-apart, at-here, at-deeper, at-next, candidate-vertex, added-vertices, degree-small, lent-next, room-next}
+use Rattle.larger.proofs.Searching.{At, at-start, at-end, at-hopeless, at-apart, Adds, at-here, at-deeper, at-next, candidate-vertex, added-vertices, degree-small, lent-next, room-next}
 use borrow.Fn.Kinds.{In}
 use borrow.Fn.PlainCycle.{Measures, is, falls, and}
 use Rattle.larger.proofs.search.Reads as search′
@@ -44,7 +44,7 @@ claims t = (
 )
 
 abbrev search-Inv-loop : search-lts.InvT-loop
-search-Inv-loop table ranks work₀ n s y base i m first end j₀ work j = At n table work₀ s y base i m work j
+search-Inv-loop table ranks work₀ n s y base i m first end j₀ work j = At n table ranks work₀ s y base i m work j
 
 abbrev search-μ-loop : search-lts.MeasureT-loop
 search-μ-loop table ranks work₀ n s y base i m first end j₀ work j = m - j
@@ -74,8 +74,7 @@ search-same-length t c = c .before .before .before .loop .inv .kept .length-kept
 search-returns : (t : ℕ) → search-lts.Need-returns (claims t) (search-at t) search′.Post search-Inv-loop search-μ-loop
 search-returns t c =
     let turn = c .before .before in
-    let start = turn .before .before .before .before .before .before in
-    at-hopeless (start .pre .1 .0) (start .pre .1 .1) (turn .before .loop .inv) (turn .loop-test .taken)
+    at-hopeless (turn .before .loop .inv) (turn .loop-test .taken)
     (sym (c .before .hopeless .ensures) ∙ c .if1 .taken)
 
 search-mul-x : (t : ℕ) → search-lts.Need-mul-x (claims t) (search-at t) search′.Post search-Inv-loop search-μ-loop
@@ -103,40 +102,48 @@ search-joined-to-all-requires : (t : ℕ) → search-lts.Need-joined-to-all-requ
 search-joined-to-all-requires t c κs =
     let turn = c .before .before .before .before in
     let start = turn .before .before .before .before .before .before in
-    let vertex = candidate-vertex (start .pre .1 .0) (start .pre .1 .1) (turn .before .loop .inv) (turn .loop-test .taken) in
-    let added = added-vertices (start .pre .1 .0) (start .pre .1 .1) (turn .before .loop .inv) in
+    let vertex = candidate-vertex (turn .before .loop .inv) (turn .loop-test .taken) in
+    let added = added-vertices (turn .before .loop .inv) in
     (start .pre .1 .0 .table, vertex, omega arith, omega arith, λ e h. added e (omega arith))
 
 search-add-d : (t : ℕ) → search-lts.Need-add-d (claims t) (search-at t) search′.Post search-Inv-loop search-μ-loop
 search-add-d t c =
     let turn = c .before .before .before .before .before .before in
-    let start = turn .before .before .before .before .before .before in
-    omega (arith, candidate-vertex (start .pre .1 .0) (start .pre .1 .1) (turn .before .loop .inv) (turn .loop-test .taken))
+    omega (arith, candidate-vertex (turn .before .loop .inv) (turn .loop-test .taken))
 
 search-mul-d : (t : ℕ) → search-lts.Need-mul-d (claims t) (search-at t) search′.Post search-Inv-loop search-μ-loop
 search-mul-d t c =
     let turn = c .before .before .before .before .before .before in
-    let start = turn .before .before .before .before .before .before in
-    omega (arith, candidate-vertex (start .pre .1 .0) (start .pre .1 .1) (turn .before .loop .inv) (turn .loop-test .taken))
+    omega (arith, candidate-vertex (turn .before .loop .inv) (turn .loop-test .taken))
 
 search-shared-slice-read-d : (t : ℕ) → search-lts.Need-shared-slice-read-d (claims t) (search-at t) search′.Post search-Inv-loop search-μ-loop
 search-shared-slice-read-d t c =
     let turn = c .before .before .before .before .before .before .before in
-    let start = turn .before .before .before .before .before .before in
-    omega (arith, candidate-vertex (start .pre .1 .0) (start .pre .1 .1) (turn .before .loop .inv) (turn .loop-test .taken))
+    omega (arith, candidate-vertex (turn .before .loop .inv) (turn .loop-test .taken))
 
 search-cast-d : (t : ℕ) → search-lts.Need-cast-d (claims t) (search-at t) search′.Post search-Inv-loop search-μ-loop
 search-cast-d t c =
     let turn = c .before .before .before .before .before .before .before in
-    let start = turn .before .before .before .before .before .before in
-    omega (arith, degree-small (start .pre .1 .0) (start .pre .1 .1) (turn .before .loop .inv) (turn .loop-test .taken))
+    omega (arith, degree-small (turn .before .loop .inv) (turn .loop-test .taken))
 
 search-with-member-requires : (t : ℕ) → search-lts.Need-with-member-requires (claims t) (search-at t) search′.Post search-Inv-loop search-μ-loop
 search-with-member-requires t c κs =
     let turn = c .before .before .before .before .before .before .before in
-    let start = turn .before .before .before .before .before .before in
-    let d = degree-small (start .pre .1 .0) (start .pre .1 .1) (turn .before .loop .inv) (turn .loop-test .taken) in
+    let d = degree-small (turn .before .loop .inv) (turn .loop-test .taken) in
     (omega arith, omega arith, omega arith)
+
+-- where the numbers with the candidate are known it is added
+adds : (t : ℕ) (c : search-lts.After-with-member (claims t) (search-at t) search′.Post search-Inv-loop search-μ-loop)
+    → Adds (c .before .before .before .before .before .before .before .before .before .loop .inv) (c .with-member .result)
+adds t c =
+    let joins = c .before .before in
+    let hope = joins .before .before .before .before in
+    record {
+      inside = hope .before .before .loop-test .taken;
+      hope = sym (hope .before .hopeless .ensures) ∙ hope .if1 .left;
+      joins = sym (joins .if2 .taken) ∙ joins .before .joined-to-all .ensures;
+      more = c .with-member .ensures;
+    }
 
 search-isolated-by-requires : (t : ℕ) → search-lts.Need-isolated-by-requires (claims t) (search-at t) search′.Post search-Inv-loop search-μ-loop
 search-isolated-by-requires t c κs =
@@ -147,18 +154,11 @@ search-isolated-by-requires t c κs =
 
 search-same-length-2 : (t : ℕ) → search-lts.Need-same-length-2 (claims t) (search-at t) search′.Post search-Inv-loop search-μ-loop
 search-same-length-2 t c =
-    let turn = c .before .before .before .before .before .before .before .before .before .before in
-    turn .before .loop .inv .kept .length-kept
+    c .before .before .before .before .before .before .before .before .before .before .before .loop .inv .kept .length-kept
 
 search-returns-2 : (t : ℕ) → search-lts.Need-returns-2 (claims t) (search-at t) search′.Post search-Inv-loop search-μ-loop
 search-returns-2 t c =
-    let more = c .before .before in
-    let joins = more .before .before in
-    let hope = joins .before .before .before .before in
-    let turn = hope .before .before in
-    let start = turn .before .before .before .before .before .before in
-    at-here (start .pre .1 .0) (start .pre .1 .1) (turn .before .loop .inv) (turn .loop-test .taken)
-    (sym (hope .before .hopeless .ensures) ∙ hope .if1 .left) (sym (joins .if2 .taken) ∙ joins .before .joined-to-all .ensures) (more .with-member .ensures) (sym (c .if3 .taken) ∙ c .before .isolated-by .ensures)
+    at-here _ (adds t (c .before .before)) (sym (c .if3 .taken) ∙ c .before .isolated-by .ensures)
 
 search-mul-work : (t : ℕ) → search-lts.Need-mul-work (claims t) (search-at t) search′.Post search-Inv-loop search-μ-loop
 search-mul-work t c = omega arith
@@ -168,20 +168,8 @@ search-slice-write-work t c = omega arith
 
 search-search-requires : (t : ℕ) → search-lts.Need-search-requires (claims t) (search-at t) search′.Post search-Inv-loop search-μ-loop
 search-search-requires t c κs =
-    let more = c .before .before .before in
-    let joins = more .before .before in
-    let hope = joins .before .before .before .before in
-    let turn = hope .before .before in
-    let start = turn .before .before .before .before .before .before in
-    let lent = lent-next (start .pre .1 .0) (start .pre .1 .1) (turn .before .loop .inv) (turn .loop-test .taken)
-    (sym (hope .before .hopeless .ensures) ∙ hope .if1 .left) (sym (joins .if2 .taken) ∙ joins .before .joined-to-all .ensures) (more .with-member .ensures) in (
-      omega arith,
-      (
-        lent,
-        room-next (start .pre .1 .0) (start .pre .1 .1) (turn .before .loop .inv) (turn .loop-test .taken)
-            (sym (hope .before .hopeless .ensures) ∙ hope .if1 .left) (sym (joins .if2 .taken) ∙ joins .before .joined-to-all .ensures) (more .with-member .ensures) _ (omega arith),
-      ),
-    )
+    let more = adds t (c .before .before .before) in
+    (omega arith, (lent-next _ more, room-next _ more _ (omega arith)))
 
 search-same-length-3 : (t : ℕ) → search-lts.Need-same-length-3 (claims t) (search-at t) search′.Post search-Inv-loop search-μ-loop
 search-same-length-3 t c =
@@ -192,14 +180,7 @@ search-same-length-3 t c =
 search-returns-3 : (t : ℕ) → search-lts.Need-returns-3 (claims t) (search-at t) search′.Post search-Inv-loop search-μ-loop
 search-returns-3 t c =
     let deep = c .before .before .before in
-    let more = deep .before .before .before .before in
-    let joins = more .before .before in
-    let hope = joins .before .before .before .before in
-    let turn = hope .before .before in
-    let start = turn .before .before .before .before .before .before in
-    at-deeper (start .pre .1 .0) (start .pre .1 .1) (turn .before .loop .inv) (turn .loop-test .taken)
-    (sym (hope .before .hopeless .ensures) ∙ hope .if1 .left) (sym (joins .if2 .taken) ∙ joins .before .joined-to-all .ensures) (more .with-member .ensures)
-    (deep .search .ensures) (c .if4 .taken)
+    at-deeper _ (adds t (deep .before .before .before .before)) (deep .search .ensures) (c .if4 .taken)
 
 search-loop-less : (t : ℕ) → search-lts.Need-loop-less (claims t) (search-at t) search′.Post search-Inv-loop search-μ-loop
 search-loop-less t c = omega arith
@@ -207,15 +188,8 @@ search-loop-less t c = omega arith
 search-loop-again : (t : ℕ) → search-lts.Need-loop-again (claims t) (search-at t) search′.Post search-Inv-loop search-μ-loop
 search-loop-again t c =
     let deep = c .before .before .before in
-    let more = deep .before .before .before .before in
-    let joins = more .before .before in
-    let hope = joins .before .before .before .before in
-    let turn = hope .before .before in
-    let start = turn .before .before .before .before .before .before in
     let tried = deep .before .before in
-    at-next (start .pre .1 .0) (start .pre .1 .1) (turn .before .loop .inv) (turn .loop-test .taken)
-    (sym (hope .before .hopeless .ensures) ∙ hope .if1 .left) (sym (joins .if2 .taken) ∙ joins .before .joined-to-all .ensures) (more .with-member .ensures)
-    (deep .search .ensures) (sym (tried .before .isolated-by .ensures) ∙ tried .if3 .left) (c .if4 .left)
+    at-next _ (adds t (tried .before .before)) (deep .search .ensures) (sym (tried .before .isolated-by .ensures) ∙ tried .if3 .left) (c .if4 .left)
 
 search-loop-less-2 : (t : ℕ) → search-lts.Need-loop-less-2 (claims t) (search-at t) search′.Post search-Inv-loop search-μ-loop
 search-loop-less-2 t c = omega arith
@@ -224,17 +198,14 @@ search-loop-again-2 : (t : ℕ) → search-lts.Need-loop-again-2 (claims t) (sea
 search-loop-again-2 t c =
     let hope = c .before .before .before .before in
     let turn = hope .before .before in
-    let start = turn .before .before .before .before .before .before in
-    at-apart (start .pre .1 .0) (start .pre .1 .1) (turn .before .loop .inv) (turn .loop-test .taken)
+    at-apart (turn .before .loop .inv) (turn .loop-test .taken)
     (sym (hope .before .hopeless .ensures) ∙ hope .if1 .left) (sym (c .if2 .left) ∙ c .before .joined-to-all .ensures)
 
 search-same-length-4 : (t : ℕ) → search-lts.Need-same-length-4 (claims t) (search-at t) search′.Post search-Inv-loop search-μ-loop
 search-same-length-4 t c = c .before .loop .inv .kept .length-kept
 
 search-returns-4 : (t : ℕ) → search-lts.Need-returns-4 (claims t) (search-at t) search′.Post search-Inv-loop search-μ-loop
-search-returns-4 t c =
-    let start = c .before .before .before .before .before .before in
-    at-end (start .pre .1 .0) (start .pre .1 .1) (c .before .loop .inv) (c .loop-test .left)
+search-returns-4 t c = at-end (c .before .loop .inv) (c .loop-test .left)
 
 pub +search-spec : {M : Type 1} → statement M
 +search-spec = close μ-search λ t. search-lts.spec (claims t) (search-at t) search′.Post search-Inv-loop search-μ-loop

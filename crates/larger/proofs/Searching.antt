@@ -1,0 +1,265 @@
+-- The search for a larger isolated clique, one candidate at a time.
+-- Assumes nothing.
+use Prim.Native.Nat.{ℕ, _+_, _-_, _*_, _≤_, _<_}
+use mathlib.Core.Path.{_≡_, refl, sym, ap, _∙_, subst}
+use mathlib.Core.Bool.{Bool, true, false}
+use mathlib.Core.List.{List, [], _∷_, _++_}
+use mathlib.Core.Logic.{_⊎_, inl, inr}
+use native.Mathlib.Omega.{arith}
+use lib.ListN.{length, getD, drop, set}
+use lib.Seq.{getD-set-same, getD-set-other}
+use Rattle.model.specs.Graph.{Graph, byTable, degree}
+use Rattle.theory.specs.Search.{joinedAll}
+use Rattle.theory.proofs.basics.Tests.{trichotomy}
+use Rattle.theory.proofs.search.Steps.{cut-end, cut-hopeless, cut-apart, cut-here, cut-deeper, cut-next}
+use Rattle.graph.proofs.Ranks.{degree-le}
+use Rattle.isolation.specs.declared.Settings.{Settings}
+use Rattle.isolation.specs.declared.Tally.{Tally}
+use Rattle.isolation.specs.Numbers.{withMember, isolatedOf, hopelessOf, findOf}
+use Rattle.theory.specs.Parts.{part, Kept, HoldsVertices}
+use Rattle.larger.specs.Search.{Lent, Room, Searched}
+use Rattle.theory.proofs.basics.Parts.{part-length, part-at, part-push, kept-none, kept-set, kept-then, part-below, part-above}
+
+-- those that the search has added, and the candidates
+abbrev pub addedIn : ℕ → List ℕ → Tally → ℕ → List ℕ
+addedIn n w y base = part w (n + base) (y .members - base)
+
+abbrev pub candidatesIn : ℕ → List ℕ → ℕ → List ℕ
+candidatesIn n w m = part w (3 * n) m
+
+-- before candidate j: what the search says from i on it says from j on, and nothing below or past the free entries of part 1 was written
+pub record At (n : ℕ) (t ranks w₀ : List ℕ) (s : Settings) (y : Tally) (base i m : ℕ) (w : List ℕ) (j : ℕ) : Type 0 where
+  pub lent : Lent n t ranks w₀
+  pub room : Room n w₀ s y base i m
+  pub from : i ≤ j
+  pub kept : Kept (n + y .members) (2 * n) w₀ w
+  pub same : findOf (byTable n t) s (addedIn n w₀ y base) y (drop i (candidatesIn n w₀ m)) ≡ findOf (byTable n t) s (addedIn n w₀ y base) y (drop j (candidatesIn n w₀ m))
+
+pub at-start : {n : ℕ} {t ranks w₀ : List ℕ} {s : Settings} {y : Tally} {base i m : ℕ} → Lent n t ranks w₀ → Room n w₀ s y base i m → At n t ranks w₀ s y base i m w₀ i
+at-start lent room = record { lent = lent; room = room; from = omega arith; kept = kept-none _ _ _; same = refl }
+
+module _ {n : ℕ} {t ranks w₀ : List ℕ} {s : Settings} {y : Tally} {base i m : ℕ} {w : List ℕ} {j : ℕ} (at : At n t ranks w₀ s y base i m w j) where
+  abbrev lent : Lent n t ranks w₀
+  lent = at .lent
+
+  abbrev room : Room n w₀ s y base i m
+  room = at .room
+
+  abbrev graph : Graph
+  graph = byTable n t
+
+  abbrev added : List ℕ
+  added = addedIn n w₀ y base
+
+  abbrev candidates : List ℕ
+  candidates = candidatesIn n w₀ m
+
+  abbrev candidate : ℕ
+  candidate = getD w (3 * n + j) 0
+
+  -- whether it is joined to those added
+  abbrev joins-added : Bool
+  joins-added = joinedAll graph candidate (part w (n + base) (n + y .members - (n + base)))
+
+  all-candidates : length candidates ≡ m
+  all-candidates = let l = lent .parts in let f = room .few in part-length w₀ (3 * n) m (omega arith)
+
+  -- with no candidate left
+  pub at-end : m ≤ j → Searched n t w₀ w s y base i m false
+  at-end h =
+      record {
+        answer = sym (at .same ∙ cut-end graph (s .notion) (s .factor) added (y .members) (y .sum) (y .least) (y .largest) candidates j (let l = all-candidates in omega arith));
+        kept = at .kept;
+      }
+
+  -- those added still stand where they stood
+  pub still-added : part w (n + base) (n + y .members - (n + base)) ≡ added
+  still-added =
+      ap (part w (n + base)) shorter
+      ∙ part-below _ _ w₀ w (at .kept) (n + base) (y .members - base) (let f = room .from in omega arith)
+    where
+      shorter : n + y .members - (n + base) ≡ y .members - base
+      shorter = omega arith
+
+  pub added-vertices : HoldsVertices n w (n + base) (n + y .members - (n + base))
+  added-vertices e h = let k = at .kept .below (n + base + e) (omega arith) in let l = room .added e (omega arith) in omega arith
+
+  module _ (inside : j < m) where
+    is-candidate : getD candidates j 0 ≡ candidate
+    is-candidate = part-at w₀ (3 * n) m j inside ∙ sym (at .kept .above (3 * n + j) (omega arith))
+
+    pub candidate-vertex : candidate < n
+    candidate-vertex = let k = at .kept .above (3 * n + j) (omega arith) in let l = room .candidates j inside in omega arith
+
+    degree-is : getD ranks (n + candidate) 0 ≡ degree graph (getD candidates j 0)
+    degree-is = lent .degrees candidate candidate-vertex ∙ ap (degree graph) (sym is-candidate)
+
+    pub degree-small : getD ranks (n + candidate) 0 ≤ n
+    degree-small = let d = lent .degrees candidate candidate-vertex in let l = degree-le n t candidate in omega arith
+
+    in-list : j < length candidates
+    in-list = let l = all-candidates in omega arith
+
+    left : length candidates - j ≡ m - j
+    left = let l = all-candidates in omega arith
+
+    -- left, where nothing larger is isolated
+    pub at-hopeless : hopelessOf s y (m - j) ≡ true → Searched n t w₀ w s y base i m false
+    at-hopeless e =
+        record {
+          answer =
+              sym (at .same
+              ∙ cut-hopeless graph (s .notion) (s .factor) added (y .members) (y .sum) (y .least) (y .largest) candidates j in-list
+              (ap (λ (r : ℕ). hopelessOf s y r) left ∙ e));
+          kept = at .kept;
+        }
+
+    module _ (hope : hopelessOf s y (m - j) ≡ false) where
+      hope-left : hopelessOf s y (length candidates - j) ≡ false
+      hope-left = ap (λ (r : ℕ). hopelessOf s y r) left ∙ hope
+
+      joined-is : (b : Bool) → b ≡ joins-added → joinedAll graph (getD candidates j 0) added ≡ b
+      joined-is b e = ap (λ (v : ℕ). joinedAll graph v added) is-candidate ∙ ap (joinedAll graph candidate) (sym still-added) ∙ sym e
+
+      -- passed over, where it is not joined to those added
+      pub at-apart : false ≡ joins-added → At n t ranks w₀ s y base i m w (j + 1)
+      at-apart e =
+          record {
+            lent = lent;
+            room = room;
+            from = let f = at .from in omega arith;
+            kept = at .kept;
+            same =
+                at .same
+                ∙ cut-apart graph (s .notion) (s .factor) added (y .members) (y .sum) (y .least) (y .largest) candidates j in-list hope-left (joined-is false e);
+          }
+
+  -- candidate j is added: it is there, a set with the candidates left may be isolated, it is joined to those added, and z has the numbers with it
+  pub record Adds (z : Tally) : Type 0 where
+    pub inside : j < m
+    pub hope : hopelessOf s y (m - j) ≡ false
+    pub joins : true ≡ joins-added
+    pub more : z ≡ withMember y (getD ranks (n + candidate) 0)
+
+  module _ {z : Tally} (adds : Adds z) where
+    abbrev inside : j < m
+    inside = adds .inside
+
+    with-degree : z ≡ withMember y (degree graph (getD candidates j 0))
+    with-degree = adds .more ∙ ap (withMember y) (degree-is inside)
+
+    -- found, where the set with it is isolated
+    pub at-here : true ≡ isolatedOf s z → Searched n t w₀ w s y base i m true
+    at-here e =
+        record {
+          answer =
+              sym (at .same
+              ∙ cut-here graph (s .notion) (s .factor) added (y .members) (y .sum) (y .least) (y .largest) candidates j (in-list inside) (hope-left inside (adds .hope))
+              (joined-is inside (adds .hope) true (adds .joins)) (ap (isolatedOf s) (sym with-degree) ∙ sym e));
+          kept = at .kept;
+        }
+
+    -- the slice with it added, for the candidates after it
+    abbrev taken : List ℕ
+    taken = set w (n + y .members) candidate
+
+    fits : n + y .members < length w
+    fits = let l = room .left in let f = at .from in let k = at .kept .length-kept in let p = lent .parts in omega arith
+
+    taken-kept : Kept (n + y .members) (2 * n) w₀ taken
+    taken-kept = kept-set _ _ w₀ w (at .kept) (n + y .members) candidate (omega arith) (let l = room .left in let f = at .from in omega arith)
+
+    pub lent-next : Lent n t ranks taken
+    lent-next =
+        record {
+          table = lent .table;
+          ranks-fit = lent .ranks-fit;
+          degrees = lent .degrees;
+          parts = let l = taken-kept .length-kept in let k = lent .parts in omega arith;
+        }
+
+    pub room-next : (from : ℕ) → j + 1 ≤ from → Room n taken s z base from m
+    room-next from past = subst (λ (x : Tally). Room n taken s x base from m) (sym (adds .more)) with-it
+      where
+        added-next : (e : ℕ) → e < y .members + 1 - base → getD taken (n + base + e) 0 < n
+        added-next e h = go (trichotomy e (y .members - base))
+          where
+            go : (e < y .members - base) ⊎ (e ≡ y .members - base) ⊎ (y .members - base < e) → getD taken (n + base + e) 0 < n
+            go (inl l) =
+                let a = getD-set-other w (n + y .members) (n + base + e) candidate 0 (λ q. omega arith) in
+                let k = at .kept .below (n + base + e) (omega arith) in
+                let v = room .added e l in
+                omega arith
+            go (inr (inl q)) =
+                let f = room .from in
+                let k : n + base + e ≡ n + y .members = omega arith in
+                let a = getD-set-same w (n + y .members) candidate 0 fits in
+                let v = candidate-vertex inside in
+                rw (k, a) v
+            go (inr (inr l)) = absurd (omega arith)
+
+        with-it : Room n taken s (withMember y (getD ranks (n + candidate) 0)) base from m
+        with-it =
+            record {
+              factor = room .factor;
+              from = let f = room .from in omega arith;
+              left = let l = room .left in let f = at .from in omega arith;
+              few = room .few;
+              sum = let d = degree-small inside in let l = room .sum in let k = lent .table .small in omega arith;
+              added = added-next;
+              candidates = λ e h. let k = taken-kept .above (3 * n + e) (omega arith) in let l = room .candidates e h in omega arith;
+            }
+
+    module _ {w₁ : List ℕ} {r : Bool} (deep : Searched n t taken w₁ s z base (j + 1) m r) where
+      kept-deep : Kept (n + y .members) (2 * n) w₀ w₁
+      kept-deep =
+          let k = deep .kept in
+          kept-then _ _ (n + z .members) (2 * n) w₀ taken w₁ taken-kept (deep .kept) (let e = ap (λ (x : Tally). x .members) (adds .more) in omega arith) (omega arith)
+
+      pushed : part taken (n + base) (z .members - base) ≡ added ++ (getD candidates j 0 ∷ [])
+      pushed =
+          ap (λ (x : Tally). part taken (n + base) (x .members - base)) (adds .more)
+          ∙ ap (part taken (n + base)) longer
+          ∙ ap (λ (e : ℕ). part (set w e candidate) (n + base) (y .members - base + 1)) (sym place)
+          ∙ part-push w (n + base) (y .members - base) candidate (let f = fits in omega arith)
+          ∙ ap (λ (l : List ℕ). l ++ (candidate ∷ [])) (part-below _ _ w₀ w (at .kept) (n + base) (y .members - base) (omega arith))
+          ∙ ap (λ (v : ℕ). added ++ (v ∷ [])) (sym (is-candidate inside))
+        where
+          longer : y .members + 1 - base ≡ y .members - base + 1
+          longer = let f = room .from in omega arith
+
+          place : n + base + (y .members - base) ≡ n + y .members
+          place = let f = room .from in omega arith
+
+      answer-deep : r ≡ findOf graph s (added ++ (getD candidates j 0 ∷ [])) (withMember y (degree graph (getD candidates j 0))) (drop (j + 1) candidates)
+      answer-deep =
+          deep .answer
+          ∙ ap (λ (l : List ℕ). findOf graph s l z (drop (j + 1) (candidatesIn n taken m))) pushed
+          ∙ ap (λ (x : Tally). findOf graph s (added ++ (getD candidates j 0 ∷ [])) x (drop (j + 1) (candidatesIn n taken m))) with-degree
+          ∙ ap (λ (l : List ℕ). findOf graph s (added ++ (getD candidates j 0 ∷ [])) (withMember y (degree graph (getD candidates j 0))) (drop (j + 1) l))
+          (part-above _ _ w₀ taken taken-kept (3 * n) m (omega arith))
+
+      -- found with it and more
+      pub at-deeper : r ≡ true → Searched n t w₀ w₁ s y base i m true
+      at-deeper e =
+          record {
+            answer =
+                sym (at .same
+                ∙ cut-deeper graph (s .notion) (s .factor) added (y .members) (y .sum) (y .least) (y .largest) candidates j (in-list inside) (hope-left inside (adds .hope))
+                (joined-is inside (adds .hope) true (adds .joins)) (sym answer-deep ∙ e));
+            kept = kept-deep;
+          }
+
+      -- passed over, where neither finds anything
+      pub at-next : isolatedOf s z ≡ false → r ≡ false → At n t ranks w₀ s y base i m w₁ (j + 1)
+      at-next e f =
+          record {
+            lent = lent;
+            room = room;
+            from = let l = at .from in omega arith;
+            kept = kept-deep;
+            same =
+                at .same
+                ∙ cut-next graph (s .notion) (s .factor) added (y .members) (y .sum) (y .least) (y .largest) candidates j (in-list inside) (hope-left inside (adds .hope))
+                (ap (isolatedOf s) (sym with-degree) ∙ e) (sym answer-deep ∙ f);
+          }
