@@ -1,5 +1,4 @@
--- Laws.
+-- The laws that the proofs of this crate cite: a set's members, whether the set qualifies, and the answer as two numbers.
 pub mod Answer
-pub mod Decide
-pub mod Filled
 pub mod Members
+pub mod Qualifying

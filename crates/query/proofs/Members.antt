@@ -21,7 +21,7 @@ use Rattle.graph.specs.Ranks.{HoldsDegrees}
 use Rattle.isolation.specs.declared.Tally.{Tally}
 use Rattle.isolation.specs.Numbers.{withMember, TallyOf}
 use Rattle.theory.specs.Parts.{part}
-use Rattle.query.specs.Query.{pairwise, Tallies}
+use Rattle.query.specs.Query.{HoldsMembers, pairwise, Tallies}
 use Rattle.theory.proofs.basics.Parts.{part-length, part-at}
 
 -- the first entries of a part are a part
@@ -46,7 +46,10 @@ all-more : (i : ℕ) (p : ℕ → Bool) → all i p ≡ true → p i ≡ true �
 unfolding all
 all-more i p e f = rw (add-one i) (rw (f, e))
 
-module _ (G : Graph) (w : List ℕ) (n k : ℕ) (fits : n + k ≤ length w) where
+module _ (G : Graph) {w : List ℕ} {n k : ℕ} (held : HoldsMembers n w k) where
+  fits : n + k ≤ length w
+  fits = let f = held .few in let l = held .parts in omega arith
+
   before-is : (i : ℕ) → i < k → joinedAll G (getD w (n + i) 0) (part w n (n + i - n)) ≡ joins-before G (part w n k) i
   before-is i h =
       ap (λ (m : ℕ). joinedAll G (getD w (n + i) 0) (part w n m)) short
@@ -126,7 +129,10 @@ clique-test G symmetric S us M some = (there, back)
 abbrev pub TalliesFirst : ℕ → List ℕ → List ℕ → ℕ → Tally → Type 0
 TalliesFirst n ranks us i y = (G : Graph) → G .size ≡ n → HoldsDegrees n G ranks → (S : VertexSet) → Members G S us → TallyOf G (among (take i us)) y
 
-module _ (n : ℕ) (ranks w : List ℕ) (k : ℕ) (fits : n + k ≤ length w) where
+module _ {n : ℕ} {w : List ℕ} {k : ℕ} (held : HoldsMembers n w k) (ranks : List ℕ) where
+  long : length (part w n k) ≡ k
+  long = let f = held .few in let l = held .parts in part-length w n k (omega arith)
+
   pub tallies-none : TalliesFirst n ranks (part w n k) 0 (record { members = 0; sum = 0; least = n; largest = 0 })
   tallies-none G size d S M = subst (λ (m : ℕ). TallyOf G (among []) (record { members = 0; sum = 0; least = m; largest = 0 })) size (tally-none G)
 
@@ -137,7 +143,7 @@ module _ (n : ℕ) (ranks w : List ℕ) (k : ℕ) (fits : n + k ≤ length w) wh
       (tally-next G S (part w n k) M i inside (y .members) (y .sum) (y .least) (y .largest) (f G size d S M))
     where
       inside : i < length (part w n k)
-      inside = let s = part-length w n k fits in omega arith
+      inside = let s = long in omega arith
 
       same : getD ranks (n + getD w (n + i) 0) 0 ≡ degree G (getD (part w n k) i 0)
       same =
@@ -150,4 +156,4 @@ module _ (n : ℕ) (ranks w : List ℕ) (k : ℕ) (fits : n + k ≤ length w) wh
       (subst (λ (m : ℕ). TallyOf G (among (take m (part w n k))) y) whole (f G size d S M))
     where
       whole : i ≡ length (part w n k)
-      whole = let s = part-length w n k fits in omega arith
+      whole = let s = long in omega arith

@@ -1,2 +1,2 @@
--- Specs.
+-- What the set query answers, and what its steps require and give.
 pub mod Query

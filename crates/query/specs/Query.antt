@@ -1,6 +1,6 @@
 -- The set query's answer, and what its steps give.
 -- Assumes nothing.
-use Prim.Native.Nat.{ℕ}
+use Prim.Native.Nat.{ℕ, _*_, _≤_}
 use mathlib.Core.Path.{_≡_}
 use mathlib.Core.Bool.{Bool}
 use mathlib.Core.List.{List}
@@ -10,6 +10,7 @@ use Rattle.model.specs.Below.{bit, all}
 use Rattle.model.specs.Graph.{Graph, byTable}
 use Rattle.model.specs.Groups.{settings, VertexSet, qualifies}
 use Rattle.model.specs.Groups as groups
+use Rattle.theory.specs.Parts.{HoldsVertices}
 use Rattle.theory.specs.Search.{joinedAll, Members}
 use Rattle.model.specs.Calls.{byBytes, refuseQuery, query}
 use Rattle.graph.specs.Ranks.{RanksFit, HoldsDegrees}
@@ -17,6 +18,12 @@ use Rattle.isolation.specs.declared.Settings.{Settings}
 use Rattle.isolation.specs.declared.Tally.{Tally}
 use Rattle.query.specs.declared.SetAnswer.{SetAnswer}
 use Rattle.isolation.specs.Numbers.{settingsOf, TallyOf}
+
+-- the work slice has the parts 0 to 3, and the first k entries of part 1 are vertices of a graph of n
+pub record HoldsMembers (n : ℕ) (w : List ℕ) (k : ℕ) : Type 0 where
+  pub few : k ≤ n
+  pub parts : 4 * n ≤ length w
+  pub vertices : HoldsVertices n w n k
 
 -- each vertex of the list is joined to all before it
 unfoldable pub pairwise : Graph → List ℕ → Bool

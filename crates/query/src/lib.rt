@@ -1,7 +1,8 @@
 // The set query: whether one set of vertices qualifies.
 ghost use mathlib.Core.Path.{_≡_};
-ghost use Prim.Native.Nat.{_+_, _-_, _*_, _<_, _≤_};
+ghost use Prim.Native.Nat.{_+_, _*_, _≤_};
 ghost use lib.ListN.{length};
+ghost use Rattle.model.specs.Below.{passing};
 ghost use Rattle.model.specs.Graph.{byTable};
 ghost use Rattle.model.specs.Listing.{is};
 ghost use Rattle.theory.specs.Search.{joinedAll};
@@ -9,8 +10,8 @@ ghost use Rattle.model.specs.Calls.{refuseQuery};
 ghost use Rattle.graph.specs.Table.{TableFits};
 ghost use Rattle.graph.specs.Ranks.{RanksFit};
 ghost use Rattle.isolation.specs.Numbers.{settingsOf};
-ghost use Rattle.theory.specs.Parts.{part, HoldsVertices, Written};
-ghost use Rattle.query.specs.Query.{pairwise, Tallies, Ready, Decided, Answers};
+ghost use Rattle.theory.specs.Parts.{part, Listed};
+ghost use Rattle.query.specs.Query.{HoldsMembers, pairwise, Tallies, Ready, Decided, Answers};
 use isolation::Settings;
 use isolation::Tally;
 use isolation::isolated_by;
@@ -29,7 +30,7 @@ pub struct SetAnswer {
 // Writes the vertices of n whose byte in set is 1 into part 1 of work, lowest first, and nothing else of it, and gives how many they are. Reads set.
 fn members_of(set: &[u8], n: usize, work: &mut [u16]) -> usize
     requires { ⌜ RanksFit n (now work) × (length (now set) ≡ n) ⌝ }
-    ensures { λ k. ⌜ Written n n (is 1 (now (set .entry))) (now (work .entry)) (now (work .exit)) k ⌝ }
+    ensures { λ k. ⌜ Listed n (n + n) (passing n (is 1 (now (set .entry)))) (now (work .entry)) (now (work .exit)) k × (k ≤ n) ⌝ }
 {
     let mut k: usize = 0;
     let mut v = 0;
@@ -45,7 +46,7 @@ fn members_of(set: &[u8], n: usize, work: &mut [u16]) -> usize
 
 // Whether the k members in part 1 of work are pairwise joined: each is joined to all before it. Reads the table and the members.
 fn pairwise_joined(table: &[u8], n: usize, work: &[u16], k: usize) -> bool
-    requires { ⌜ TableFits n (now table) × (k ≤ n) × (2 * n ≤ length (now work)) × HoldsVertices n (now work) n k ⌝ }
+    requires { ⌜ TableFits n (now table) × HoldsMembers n (now work) k ⌝ }
     ensures { λ r. ⌜ r ≡ pairwise (byTable n (now (table .entry))) (part (now (work .entry)) n k) ⌝ }
 {
     let mut i = 0;
@@ -62,7 +63,7 @@ fn pairwise_joined(table: &[u8], n: usize, work: &[u16], k: usize) -> bool
 
 // The numbers of the set whose k members stand in part 1 of work, by the degrees in part 1 of ranks; n is the number of vertices. Reads both.
 fn tally_of(ranks: &[u16], n: usize, work: &[u16], k: usize) -> Tally
-    requires { ⌜ RanksFit n (now ranks) × (k ≤ n) × (2 * n ≤ length (now work)) × HoldsVertices n (now work) n k ⌝ }
+    requires { ⌜ RanksFit n (now ranks) × HoldsMembers n (now work) k ⌝ }
     ensures { λ y. ⌜ Tallies n (now (ranks .entry)) (part (now (work .entry)) n k) y ⌝ }
 {
     let mut y = Tally {
@@ -84,8 +85,8 @@ fn tally_of(ranks: &[u16], n: usize, work: &[u16], k: usize) -> Tally
 // Writes the vertices that are joined to each of the k members in part 1 of work into part 3, lowest first, and nothing else of work, and gives how
 // many they are; with no loops in the graph they are the members' common neighbours. Reads the table at the members.
 fn common_neighbours(table: &[u8], n: usize, work: &mut [u16], k: usize) -> usize
-    requires { ⌜ TableFits n (now table) × (k ≤ n) × (4 * n ≤ length (now work)) × HoldsVertices n (now work) n k ⌝ }
-    ensures { λ m. ⌜ Written (3 * n) n (λ v. joinedAll (byTable n (now (table .entry))) v (part (now (work .entry)) n k)) (now (work .entry)) (now (work .exit)) m ⌝ }
+    requires { ⌜ TableFits n (now table) × HoldsMembers n (now work) k ⌝ }
+    ensures { λ m. ⌜ Listed (3 * n) (3 * n + n) (passing n (λ v. joinedAll (byTable n (now (table .entry))) v (part (now (work .entry)) n k))) (now (work .entry)) (now (work .exit)) m × (m ≤ n) ⌝ }
 {
     let end = n + k;
     let mut m: usize = 0;

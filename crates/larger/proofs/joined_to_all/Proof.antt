@@ -23,7 +23,7 @@ abbrev μ-loop : tie.MeasureT-loop
 loop-holds : tie.Need-loop-holds Inv-loop μ-loop
 loop-holds c =
     let b = c .before .before in
-    (omega arith, omega arith, all-none _ (b .args .v) (b .args .work .now) (b .args .from) (b .args .to) (b .pre .2) (b .pre .3))
+    (omega arith, omega arith, all-none _ _ _ _ _ (b .pre .2) (b .pre .3))
 
 mul-u : tie.Need-mul-u Inv-loop μ-loop
 mul-u c = search needs
@@ -46,7 +46,7 @@ returns : tie.Need-returns Inv-loop μ-loop
 returns c =
     let b = c .before .before .before .before .before .before .before in
     let l = c .before .before .before .before .loop in
-    sym (all-apart _ (b .args .v) (b .args .work .now) (b .args .from) (b .args .to) (b .pre .2) (b .pre .3) (l .i) (l .inv .0) (omega arith) (sym (c .before .joined .ensures) ∙ not-true _ (c .if1 .taken)))
+    sym (all-apart _ _ _ _ _ (b .pre .2) (b .pre .3) (l .i) (l .inv .0) (omega arith) (sym (c .before .joined .ensures) ∙ not-true _ (c .if1 .taken)))
 
 add-i : tie.Need-add-i Inv-loop μ-loop
 add-i c = search needs
@@ -60,14 +60,14 @@ loop-again c =
     let l = c .before .before .before .before .loop in (
       omega arith,
       omega arith,
-      all-more _ (b .args .v) (b .args .work .now) (b .args .from) (b .args .to) (b .pre .2) (b .pre .3) (l .i) (l .inv .0) (omega arith) (l .inv .2) (sym (c .before .joined .ensures) ∙ not-false _ (c .if1 .left)),
+      all-more _ _ _ _ _ (b .pre .2) (b .pre .3) (l .i) (l .inv .0) (omega arith) (l .inv .2) (sym (c .before .joined .ensures) ∙ not-false _ (c .if1 .left)),
     )
 
 returns-2 : tie.Need-returns-2 Inv-loop μ-loop
 returns-2 c =
     let b = c .before .before .before .before in
     let l = c .before .loop in
-    sym (all-end _ (b .args .v) (b .args .work .now) (b .args .from) (b .args .to) (b .pre .2) (b .pre .3) (l .i) (omega arith) (l .inv .1) (l .inv .2))
+    sym (all-end _ _ _ _ _ (b .pre .2) (b .pre .3) (l .i) (omega arith) (l .inv .1) (l .inv .2))
 
 pub joined-to-all-spec : {M : Type 1} → statement M
 joined-to-all-spec =

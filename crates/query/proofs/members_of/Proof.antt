@@ -1,22 +1,25 @@
 -- `query::members_of` meets its contract: the members that were passed stand in part 1.
 -- Assumes nothing.
-use Prim.Native.Nat.{_-_, _≤_}
+use Prim.Native.Nat.{_+_, _-_, _≤_}
 use mathlib.Core.Logic.{⊎-elim}
 use native.Mathlib.Omega.{arith}
 use borrow.Author.Tests.{eq-eqb, ne-eqb}
+use Rattle.model.specs.Below.{passing}
 use Rattle.model.specs.Listing.{is}
-use Rattle.query.proofs.Filled.{Filled, filled-same, filled-none, filled-hit, filled-miss, filled-all}
+use Rattle.theory.specs.Parts.{Listed}
+use Rattle.theory.proofs.basics.Parts.{listed-same, listed-none, listed-push, listed-pass}
+use Rattle.theory.proofs.basics.Passing.{passing-none, passing-hit, passing-miss, passing-end}
 use Rattle.query.proofs.members_of.Statement.{statement}
 use Rattle.query.proofs.members_of.Tie as tie
 
 abbrev Inv-loop : tie.InvT-loop
-Inv-loop set n work₀ k₀ v₀ work k v = (v ≤ n) × Filled n n (is 1 set) work₀ work v k
+Inv-loop set n work₀ k₀ v₀ work k v = (v ≤ n) × (k ≤ v) × Listed n (n + n) (passing v (is 1 set)) work₀ work k
 
 abbrev μ-loop : tie.MeasureT-loop
 μ-loop set n work₀ k₀ v₀ work k v = n - v
 
 loop-holds : tie.Need-loop-holds Inv-loop μ-loop
-loop-holds c = (omega arith, filled-none _ _ _ _)
+loop-holds c = (omega arith, omega arith, listed-none _ _ _ _ (passing-none _))
 
 shared-slice-read-if1 : tie.Need-shared-slice-read-if1 Inv-loop μ-loop
 shared-slice-read-if1 c = omega arith
@@ -43,19 +46,18 @@ loop-less : tie.Need-loop-less Inv-loop μ-loop
 loop-less c = omega arith
 
 loop-again : tie.Need-loop-again Inv-loop μ-loop
-loop-again c = (
-  omega arith,
-  ⊎-elim
-      (λ w. filled-same (w .1) (w .2) (filled-hit _ _ _ _ (c .before .before .before .loop .inv .1) (c .before .before .loop-test .taken) (omega arith) (eq-eqb _ _ (w .0 .taken))))
-      (λ w. filled-same (w .1) (w .2) (filled-miss _ _ _ _ (c .before .before .before .loop .inv .1) (ne-eqb _ _ (w .0 .left))))
-      (c .if1 .came),
-)
+loop-again c =
+    let s = c .before .before .before .loop .inv .2 in
+    ⊎-elim
+    (λ w. (omega arith, omega arith, listed-same (w .1) (w .2) (listed-push _ _ _ s _ _ (passing-hit _ _ (eq-eqb _ _ (w .0 .taken))) (omega arith) (omega arith))))
+    (λ w. (omega arith, omega arith, listed-same (w .1) (w .2) (listed-pass _ _ _ s _ (passing-miss _ _ (ne-eqb _ _ (w .0 .left))))))
+    (c .if1 .came)
 
 same-length : tie.Need-same-length Inv-loop μ-loop
-same-length c = c .before .loop .inv .1 .kept .length-kept
+same-length c = c .before .loop .inv .2 .kept .length-kept
 
 returns : tie.Need-returns Inv-loop μ-loop
-returns c = filled-all _ _ _ _ (c .before .loop .inv .1) (c .before .loop .inv .0) (c .loop-test .left)
+returns c = (listed-pass _ _ _ (c .before .loop .inv .2) _ (passing-end _ _ _ (omega arith) (omega arith)), omega arith)
 
 pub members-of-spec : {M : Type 1} → statement M
 members-of-spec =

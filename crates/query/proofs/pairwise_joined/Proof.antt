@@ -21,7 +21,7 @@ abbrev μ-loop : tie.MeasureT-loop
 loop-holds : tie.Need-loop-holds Inv-loop μ-loop
 loop-holds c =
     let start = c .before .before in
-    (omega arith, pairs-none _ (start .args .work .now) (start .args .n) (start .args .k) (omega arith))
+    (omega arith, pairs-none _ (start .pre .1))
 
 add-end : tie.Need-add-end Inv-loop μ-loop
 add-end c = omega arith
@@ -33,16 +33,13 @@ shared-slice-read-v : tie.Need-shared-slice-read-v Inv-loop μ-loop
 shared-slice-read-v c = omega arith
 
 cast-v : tie.Need-cast-v Inv-loop μ-loop
-cast-v c =
-    let turn = c .before in
-    let start = turn .before .before .before .before in
-    omega (arith, c .shared-slice-known3 .given (start .args .n + turn .before .loop .i))
+cast-v c = omega (arith, c .shared-slice-known3 .given (c .before .before .before .before .before .args .n + c .before .before .loop .i))
 
 joined-to-all-requires : tie.Need-joined-to-all-requires Inv-loop μ-loop
 joined-to-all-requires c κs =
     let turn = c .before in
     let start = turn .before .before .before .before in
-    let vertex = start .pre .3 in
+    let vertex = start .pre .1 .vertices in
     (start .pre .0, vertex (turn .before .loop .i) (omega arith), omega arith, omega arith, λ j h. vertex j (omega arith))
 
 returns : tie.Need-returns Inv-loop μ-loop
@@ -50,7 +47,7 @@ returns c =
     let turn = c .before .before .before in
     let start = turn .before .before .before .before in
     sym
-    (pairs-apart _ (start .args .work .now) (start .args .n) (start .args .k) (omega arith) (turn .before .loop .i) (turn .loop-test .taken)
+    (pairs-apart _ (start .pre .1) (turn .before .loop .i) (turn .loop-test .taken)
     (sym (c .before .joined-to-all .ensures) ∙ not-true _ (c .if1 .taken)))
 
 add-i : tie.Need-add-i Inv-loop μ-loop
@@ -64,7 +61,7 @@ loop-again c =
     let turn = c .before .before .before in
     let start = turn .before .before .before .before in
     let more =
-    pairs-more _ (start .args .work .now) (start .args .n) (start .args .k) (omega arith) (turn .before .loop .i) (turn .loop-test .taken)
+    pairs-more _ (start .pre .1) (turn .before .loop .i) (turn .loop-test .taken)
     (turn .before .loop .inv .1) (sym (c .before .joined-to-all .ensures) ∙ not-false _ (c .if1 .left))
     in
     (omega arith, more)
@@ -73,7 +70,7 @@ returns-2 : tie.Need-returns-2 Inv-loop μ-loop
 returns-2 c =
     let start = c .before .before .before .before in
     let l = c .before .loop in
-    sym (pairs-all _ (start .args .work .now) (start .args .n) (start .args .k) (omega arith) (l .i) (l .inv .0) (c .loop-test .left) (l .inv .1))
+    sym (pairs-all _ (start .pre .1) (l .i) (l .inv .0) (c .loop-test .left) (l .inv .1))
 
 pub pairwise-joined-spec : {M : Type 1} → statement M
 pairwise-joined-spec =

@@ -34,7 +34,7 @@ fill-degrees-requires c κs =
     (f, record { small = s; parts = l })
 
 slice-aggregate-set-qualifies : tie.Need-slice-aggregate-set-qualifies
-slice-aggregate-set-qualifies c = sym (c .before .before .fill-degrees .ensures .length-kept)
+slice-aggregate-set-qualifies c = sym (c .before .before .fill-degrees .ensures .kept .length-kept)
 
 set-qualifies-requires : tie.Need-set-qualifies-requires
 set-qualifies-requires c κs =
@@ -47,7 +47,7 @@ set-qualifies-requires c κs =
     (start .args .set .now) (start .args .work .now) ok .table .fits
     in
     let s = f .small in
-    let k : length (filled .fill-degrees .last .1 .1 .0) ≡ 2048 = filled .fill-degrees .ensures .length-kept in
+    let k : length (filled .fill-degrees .last .1 .1 .0) ≡ 2048 = filled .fill-degrees .ensures .kept .length-kept in
     record { accepted = ok; ranks-fit = record { small = s; parts = omega arith }; degrees = filled .fill-degrees .ensures .degrees }
 
 same-length : tie.Need-same-length

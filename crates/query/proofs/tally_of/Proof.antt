@@ -1,6 +1,6 @@
 -- `query::tally_of` meets its contract: after i members the numbers are those of the first i.
 -- Assumes nothing.
-use Prim.Native.Nat.{_+_, _-_, _*_, _≤_}
+use Prim.Native.Nat.{_+_, _-_, _*_, _≤_, _<_}
 use mathlib.Core.Path.{_≡_, ap}
 use native.Mathlib.Omega.{arith}
 use lib.ListN.{getD}
@@ -19,7 +19,7 @@ abbrev μ-loop : tie.MeasureT-loop
 loop-holds : tie.Need-loop-holds Inv-loop μ-loop
 loop-holds c =
     let start = c .before .before in
-    (omega arith, omega arith, omega arith, tallies-none (start .args .n) (start .args .ranks .now) (start .args .work .now) (start .args .k) (omega arith))
+    (omega arith, omega arith, omega arith, tallies-none (start .pre .1) (start .args .ranks .now))
 
 add-v : tie.Need-add-v Inv-loop μ-loop
 add-v c = omega arith
@@ -31,40 +31,31 @@ shared-slice-read-v : tie.Need-shared-slice-read-v Inv-loop μ-loop
 shared-slice-read-v c = omega arith
 
 cast-v : tie.Need-cast-v Inv-loop μ-loop
-cast-v c =
-    let turn = c .before in
-    let start = turn .before .before .before .before in
-    omega (arith, c .shared-slice-known3 .given (start .args .n + turn .before .loop .i))
+cast-v c = omega (arith, c .shared-slice-known3 .given (c .before .before .before .before .before .args .n + c .before .before .loop .i))
+
+-- the member at place i is a vertex
+vertex : (c : tie.In-loop Inv-loop μ-loop) → getD (c .before .before .before .before .args .work .now) (c .before .before .before .before .args .n + c .before .loop .i) 0 < c .before .before .before .before .args .n
+vertex c = c .before .before .before .before .pre .1 .vertices (c .before .loop .i) (c .loop-test .taken)
 
 add-d : tie.Need-add-d Inv-loop μ-loop
-add-d c =
-    let turn = c .before in
-    let start = turn .before .before .before .before in
-    omega (arith, start .pre .3 (turn .before .loop .i) (turn .loop-test .taken))
+add-d c = omega (arith, vertex (c .before))
 
 mul-d : tie.Need-mul-d Inv-loop μ-loop
-mul-d c =
-    let turn = c .before in
-    let start = turn .before .before .before .before in
-    omega (arith, start .pre .3 (turn .before .loop .i) (turn .loop-test .taken))
+mul-d c = omega (arith, vertex (c .before))
 
 shared-slice-read-d : tie.Need-shared-slice-read-d Inv-loop μ-loop
-shared-slice-read-d c =
-    let turn = c .before .before in
-    let start = turn .before .before .before .before in
-    omega (arith, start .pre .3 (turn .before .loop .i) (turn .loop-test .taken))
+shared-slice-read-d c = omega (arith, vertex (c .before .before))
+
+-- its degree is a 16-bit number
+degree-small : (c : tie.After-shared-slice-known4 Inv-loop μ-loop)
+    → getD (c .before .before .before .before .before .before .args .ranks .now) (c .before .before .before .before .before .before .args .n + getD (c .before .before .before .before .before .before .args .work .now) (c .before .before .before .before .before .before .args .n + c .before .before .before .loop .i) 0) 0 ≤ 65535
+degree-small c = omega (arith, c .shared-slice-known4 .given (c .before .before .before .before .before .before .args .n + getD (c .before .before .before .before .before .before .args .work .now) (c .before .before .before .before .before .before .args .n + c .before .before .before .loop .i) 0))
 
 cast-d : tie.Need-cast-d Inv-loop μ-loop
-cast-d c =
-    let turn = c .before .before in
-    let start = turn .before .before .before .before in
-    omega (arith, c .shared-slice-known4 .given (start .args .n + getD (start .args .work .now) (start .args .n + turn .before .loop .i) 0))
+cast-d c = omega (arith, degree-small c)
 
 with-member-requires : tie.Need-with-member-requires Inv-loop μ-loop
-with-member-requires c κs =
-    let turn = c .before .before in
-    let start = turn .before .before .before .before in
-    (omega arith, omega arith, omega (arith, c .shared-slice-known4 .given (start .args .n + getD (start .args .work .now) (start .args .n + turn .before .loop .i) 0)))
+with-member-requires c κs = (omega arith, omega arith, degree-small c)
 
 add-i : tie.Need-add-i Inv-loop μ-loop
 add-i c = omega arith
@@ -79,15 +70,15 @@ loop-again c =
     let e = c .with-member .ensures in
     let k = ap (λ (x : Tally). x .members) e in
     let s = ap (λ (x : Tally). x .sum) e in
-    let d = c .before .shared-slice-known4 .given (start .args .n + getD (start .args .work .now) (start .args .n + turn .before .loop .i) 0) in
-    let more = tallies-more (start .args .n) (start .args .ranks .now) (start .args .work .now) (start .args .k) (omega arith) (turn .before .loop .i) (turn .loop-test .taken) (turn .before .loop .inv .3) e in
+    let d = degree-small (c .before) in
+    let more = tallies-more (start .pre .1) (start .args .ranks .now) (turn .before .loop .i) (turn .loop-test .taken) (turn .before .loop .inv .3) e in
     (omega arith, omega arith, omega arith, more)
 
 returns : tie.Need-returns Inv-loop μ-loop
 returns c =
     let start = c .before .before .before .before in
     let l = c .before .loop in
-    tallies-all (start .args .n) (start .args .ranks .now) (start .args .work .now) (start .args .k) (omega arith) (l .i) (l .inv .0) (c .loop-test .left) (l .inv .3)
+    tallies-all (start .pre .1) (start .args .ranks .now) (l .i) (l .inv .0) (c .loop-test .left) (l .inv .3)
 
 pub tally-of-spec : {M : Type 1} → statement M
 tally-of-spec =

@@ -1,6 +1,6 @@
 -- The numbers below n that pass a test, as a list: the candidates of a set, and the taken vertices in rank order.
 -- Assumes nothing.
-use Prim.Native.Nat.{ℕ, zero, suc, _+_, _<_}
+use Prim.Native.Nat.{ℕ, zero, suc, _+_, _≤_, _<_}
 use mathlib.Core.Path.{_≡_, refl, sym, ap, _∙_, subst}
 use mathlib.Core.Bool.{Bool, true, false, true≢false}
 use mathlib.Core.List.{List, [], _∷_, _++_, map, append-nil}
@@ -50,6 +50,10 @@ module _ (p : ℕ → Bool) where
   pub passing-miss : (n : ℕ) → p n ≡ false → passing (n + 1) p ≡ passing n p
   unfolding passing
   passing-miss n e = rw (add-one n, e) (append-nil (passing n p))
+
+  -- those below n, where a loop that stops at n has gone up to v
+  pub passing-end : (n v : ℕ) → v ≤ n → n ≤ v → passing n p ≡ passing v p
+  passing-end n v h l = let e : n ≡ v = omega arith in ap (λ (u : ℕ). passing u p) e
 
   -- what is in the list is below n and passes
   pub passing-listed : (n v : ℕ) → Listed v (passing n p) → (v < n) × (p v ≡ true)
