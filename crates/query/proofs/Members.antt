@@ -8,7 +8,7 @@ use mathlib.Core.Logic.{_⊎_, inl, inr}
 use native.Mathlib.Numerals.{add-one}
 use native.Mathlib.Omega.{arith}
 use lib.ListN.{length, getD, take}
-use lib.Seq.{length-take-le, getD-take, ext-getD}
+use lib.Seq.{length-take-le, getD-take}
 use Rattle.model.specs.Below.{all}
 use Rattle.model.specs.Graph.{Graph, degree}
 use Rattle.model.specs.Groups.{VertexSet}
@@ -22,19 +22,7 @@ use Rattle.isolation.specs.declared.Tally.{Tally}
 use Rattle.isolation.specs.Numbers.{withMember, TallyOf}
 use Rattle.theory.specs.Parts.{part}
 use Rattle.query.specs.Query.{HoldsMembers, pairwise, Tallies}
-use Rattle.theory.proofs.basics.Parts.{part-length, part-at}
-
--- the first entries of a part are a part
-pub take-part : (w : List ℕ) (a k i : ℕ) → i ≤ k → a + k ≤ length w → take i (part w a k) ≡ part w a i
-take-part w a k i h l =
-    ext-getD 0 (take i (part w a k)) (part w a i) (first ∙ sym second)
-    (λ j g. let s = first in getD-take i (part w a k) j 0 (omega arith) ∙ part-at w a k j (omega arith) ∙ sym (part-at w a i j (omega arith)))
-  where
-    first : length (take i (part w a k)) ≡ i
-    first = length-take-le i (part w a k) (let s = part-length w a k l in omega arith)
-
-    second : length (part w a i) ≡ i
-    second = part-length w a i (omega arith)
+use Rattle.theory.proofs.basics.Parts.{part-length, part-at, part-take}
 
 -- ---- pairwise joined
 
@@ -53,7 +41,7 @@ module _ (G : Graph) {w : List ℕ} {n k : ℕ} (held : HoldsMembers n w k) wher
   before-is : (i : ℕ) → i < k → joinedAll G (getD w (n + i) 0) (part w n (n + i - n)) ≡ joins-before G (part w n k) i
   before-is i h =
       ap (λ (m : ℕ). joinedAll G (getD w (n + i) 0) (part w n m)) short
-      ∙ ap (λ (l : List ℕ). joinedAll G (getD w (n + i) 0) l) (sym (take-part w n k i (omega arith) fits))
+      ∙ ap (λ (l : List ℕ). joinedAll G (getD w (n + i) 0) l) (sym (part-take w n k i (omega arith)))
       ∙ ap (λ (v : ℕ). joinedAll G v (take i (part w n k))) (sym (part-at w n k i h))
     where
       short : n + i - n ≡ i
