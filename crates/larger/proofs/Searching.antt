@@ -39,9 +39,6 @@ pub at-start : {n : ℕ} {t ranks w₀ : List ℕ} {s : Settings} {y : Tally} {b
 at-start lent room = record { lent = lent; room = room; from = omega arith; kept = kept-none _ _ _; same = refl }
 
 module _ {n : ℕ} {t ranks w₀ : List ℕ} {s : Settings} {y : Tally} {base i m : ℕ} {w : List ℕ} {j : ℕ} (at : At n t ranks w₀ s y base i m w j) where
-  abbrev lent : Lent n t ranks w₀
-  lent = at .lent
-
   abbrev room : Room n w₀ s y base i m
   room = at .room
 
@@ -62,15 +59,20 @@ module _ {n : ℕ} {t ranks w₀ : List ℕ} {s : Settings} {y : Tally} {base i 
   joins-added = joinedAll graph candidate (part w (n + base) (n + y .members - (n + base)))
 
   all-candidates : length candidates ≡ m
-  all-candidates = let l = lent .parts in let f = room .few in part-length w₀ (3 * n) m (omega arith)
+  all-candidates = let l = at .lent .parts in let f = room .few in part-length w₀ (3 * n) m (omega arith)
+
+  -- what the search says from j on is its answer
+  says : {w₁ : List ℕ} {r : Bool} → Kept (n + y .members) (2 * n) w₀ w₁ → findOf graph s added y (drop j candidates) ≡ r → Searched n t w₀ w₁ s y base i m r
+  says k e = record { answer = sym (at .same ∙ e); kept = k }
+
+  -- and where it says that from the next on too, candidate j is passed over
+  passes : {w₁ : List ℕ} → Kept (n + y .members) (2 * n) w₀ w₁ → findOf graph s added y (drop j candidates) ≡ findOf graph s added y (drop (j + 1) candidates)
+      → At n t ranks w₀ s y base i m w₁ (j + 1)
+  passes k e = record { lent = at .lent; room = room; from = let f = at .from in omega arith; kept = k; same = at .same ∙ e }
 
   -- with no candidate left
   pub at-end : m ≤ j → Searched n t w₀ w s y base i m false
-  at-end h =
-      record {
-        answer = sym (at .same ∙ cut-end graph (s .notion) (s .factor) added (y .members) (y .sum) (y .least) (y .largest) candidates j (let l = all-candidates in omega arith));
-        kept = at .kept;
-      }
+  at-end h = says (at .kept) (cut-end _ _ _ _ _ _ _ _ candidates j (let l = all-candidates in omega arith))
 
   -- those added still stand where they stood
   pub still-added : part w (n + base) (n + y .members - (n + base)) ≡ added
@@ -92,10 +94,10 @@ module _ {n : ℕ} {t ranks w₀ : List ℕ} {s : Settings} {y : Tally} {base i 
     candidate-vertex = let k = at .kept .above (3 * n + j) (omega arith) in let l = room .candidates j inside in omega arith
 
     degree-is : getD ranks (n + candidate) 0 ≡ degree graph (getD candidates j 0)
-    degree-is = lent .degrees candidate candidate-vertex ∙ ap (degree graph) (sym is-candidate)
+    degree-is = at .lent .degrees candidate candidate-vertex ∙ ap (degree graph) (sym is-candidate)
 
     pub degree-small : getD ranks (n + candidate) 0 ≤ n
-    degree-small = let d = lent .degrees candidate candidate-vertex in let l = degree-le n t candidate in omega arith
+    degree-small = let d = at .lent .degrees candidate candidate-vertex in let l = degree-le n t candidate in omega arith
 
     in-list : j < length candidates
     in-list = let l = all-candidates in omega arith
@@ -105,14 +107,7 @@ module _ {n : ℕ} {t ranks w₀ : List ℕ} {s : Settings} {y : Tally} {base i 
 
     -- left, where nothing larger is isolated
     pub at-hopeless : hopelessOf s y (m - j) ≡ true → Searched n t w₀ w s y base i m false
-    at-hopeless e =
-        record {
-          answer =
-              sym (at .same
-              ∙ cut-hopeless graph (s .notion) (s .factor) added (y .members) (y .sum) (y .least) (y .largest) candidates j in-list
-              (ap (λ (r : ℕ). hopelessOf s y r) left ∙ e));
-          kept = at .kept;
-        }
+    at-hopeless e = says (at .kept) (cut-hopeless _ _ _ _ _ _ _ _ candidates j in-list (ap (λ (r : ℕ). hopelessOf s y r) left ∙ e))
 
     module _ (hope : hopelessOf s y (m - j) ≡ false) where
       hope-left : hopelessOf s y (length candidates - j) ≡ false
@@ -123,16 +118,7 @@ module _ {n : ℕ} {t ranks w₀ : List ℕ} {s : Settings} {y : Tally} {base i 
 
       -- passed over, where it is not joined to those added
       pub at-apart : false ≡ joins-added → At n t ranks w₀ s y base i m w (j + 1)
-      at-apart e =
-          record {
-            lent = lent;
-            room = room;
-            from = let f = at .from in omega arith;
-            kept = at .kept;
-            same =
-                at .same
-                ∙ cut-apart graph (s .notion) (s .factor) added (y .members) (y .sum) (y .least) (y .largest) candidates j in-list hope-left (joined-is false e);
-          }
+      at-apart e = passes (at .kept) (cut-apart _ _ _ _ _ _ _ _ candidates j in-list hope-left (joined-is false e))
 
   -- candidate j is added: it is there, a set with the candidates left may be isolated, it is joined to those added, and z has the numbers with it
   pub record Adds (z : Tally) : Type 0 where
@@ -151,32 +137,25 @@ module _ {n : ℕ} {t ranks w₀ : List ℕ} {s : Settings} {y : Tally} {base i 
     -- found, where the set with it is isolated
     pub at-here : true ≡ isolatedOf s z → Searched n t w₀ w s y base i m true
     at-here e =
-        record {
-          answer =
-              sym (at .same
-              ∙ cut-here graph (s .notion) (s .factor) added (y .members) (y .sum) (y .least) (y .largest) candidates j (in-list inside) (hope-left inside (adds .hope))
-              (joined-is inside (adds .hope) true (adds .joins)) (ap (isolatedOf s) (sym with-degree) ∙ sym e));
-          kept = at .kept;
-        }
+        says (at .kept)
+        (cut-here _ _ _ _ _ _ _ _ candidates j (in-list inside) (hope-left inside (adds .hope)) (joined-is inside (adds .hope) true (adds .joins))
+        (ap (isolatedOf s) (sym with-degree) ∙ sym e))
 
     -- the slice with it added, for the candidates after it
     abbrev taken : List ℕ
     taken = set w (n + y .members) candidate
 
     fits : n + y .members < length w
-    fits = let l = room .left in let f = at .from in let k = at .kept .length-kept in let p = lent .parts in omega arith
+    fits = let l = room .left in let f = at .from in let k = at .kept .length-kept in let p = at .lent .parts in omega arith
 
     taken-kept : Kept (n + y .members) (2 * n) w₀ taken
     taken-kept = kept-set _ _ w₀ w (at .kept) (n + y .members) candidate (omega arith) (let l = room .left in let f = at .from in omega arith)
 
     pub lent-next : Lent n t ranks taken
     lent-next =
-        record {
-          table = lent .table;
-          ranks-fit = lent .ranks-fit;
-          degrees = lent .degrees;
-          parts = let l = taken-kept .length-kept in let k = lent .parts in omega arith;
-        }
+        let parts = at .lent .parts in
+        let l = taken-kept .length-kept in
+        record { table = at .lent .table; ranks-fit = at .lent .ranks-fit; degrees = at .lent .degrees; parts = omega arith }
 
     pub room-next : (from : ℕ) → j + 1 ≤ from → Room n taken s z base from m
     room-next from past = subst (λ (x : Tally). Room n taken s x base from m) (sym (adds .more)) with-it
@@ -205,7 +184,7 @@ module _ {n : ℕ} {t ranks w₀ : List ℕ} {s : Settings} {y : Tally} {base i 
               from = let f = room .from in omega arith;
               left = let l = room .left in let f = at .from in omega arith;
               few = room .few;
-              sum = let d = degree-small inside in let l = room .sum in let k = lent .table .small in omega arith;
+              sum = let d = degree-small inside in let l = room .sum in let k = at .lent .table .small in omega arith;
               added = added-next;
               candidates = λ e h. let k = taken-kept .above (3 * n + e) (omega arith) in let l = room .candidates e h in omega arith;
             }
@@ -242,24 +221,11 @@ module _ {n : ℕ} {t ranks w₀ : List ℕ} {s : Settings} {y : Tally} {base i 
       -- found with it and more
       pub at-deeper : r ≡ true → Searched n t w₀ w₁ s y base i m true
       at-deeper e =
-          record {
-            answer =
-                sym (at .same
-                ∙ cut-deeper graph (s .notion) (s .factor) added (y .members) (y .sum) (y .least) (y .largest) candidates j (in-list inside) (hope-left inside (adds .hope))
-                (joined-is inside (adds .hope) true (adds .joins)) (sym answer-deep ∙ e));
-            kept = kept-deep;
-          }
+          says kept-deep
+          (cut-deeper _ _ _ _ _ _ _ _ candidates j (in-list inside) (hope-left inside (adds .hope)) (joined-is inside (adds .hope) true (adds .joins)) (sym answer-deep ∙ e))
 
       -- passed over, where neither finds anything
       pub at-next : isolatedOf s z ≡ false → r ≡ false → At n t ranks w₀ s y base i m w₁ (j + 1)
       at-next e f =
-          record {
-            lent = lent;
-            room = room;
-            from = let l = at .from in omega arith;
-            kept = kept-deep;
-            same =
-                at .same
-                ∙ cut-next graph (s .notion) (s .factor) added (y .members) (y .sum) (y .least) (y .largest) candidates j (in-list inside) (hope-left inside (adds .hope))
-                (ap (isolatedOf s) (sym with-degree) ∙ e) (sym answer-deep ∙ f);
-          }
+          passes kept-deep
+          (cut-next _ _ _ _ _ _ _ _ candidates j (in-list inside) (hope-left inside (adds .hope)) (ap (isolatedOf s) (sym with-degree) ∙ e) (sym answer-deep ∙ f))

@@ -107,24 +107,16 @@ search-joined-to-all-requires t c κs =
     (start .pre .1 .0 .table, vertex, omega arith, omega arith, λ e h. added e (omega arith))
 
 search-add-d : (t : ℕ) → search-lts.Need-add-d (claims t) (search-at t) search′.Post search-Inv-loop search-μ-loop
-search-add-d t c =
-    let turn = c .before .before .before .before .before .before in
-    omega (arith, candidate-vertex (turn .before .loop .inv) (turn .loop-test .taken))
+search-add-d t c = omega (arith, candidate-vertex (c .before .before .before .before .before .before .before .loop .inv) (c .before .before .before .before .before .before .loop-test .taken))
 
 search-mul-d : (t : ℕ) → search-lts.Need-mul-d (claims t) (search-at t) search′.Post search-Inv-loop search-μ-loop
-search-mul-d t c =
-    let turn = c .before .before .before .before .before .before in
-    omega (arith, candidate-vertex (turn .before .loop .inv) (turn .loop-test .taken))
+search-mul-d t c = omega (arith, candidate-vertex (c .before .before .before .before .before .before .before .loop .inv) (c .before .before .before .before .before .before .loop-test .taken))
 
 search-shared-slice-read-d : (t : ℕ) → search-lts.Need-shared-slice-read-d (claims t) (search-at t) search′.Post search-Inv-loop search-μ-loop
-search-shared-slice-read-d t c =
-    let turn = c .before .before .before .before .before .before .before in
-    omega (arith, candidate-vertex (turn .before .loop .inv) (turn .loop-test .taken))
+search-shared-slice-read-d t c = omega (arith, candidate-vertex (c .before .before .before .before .before .before .before .before .loop .inv) (c .before .before .before .before .before .before .before .loop-test .taken))
 
 search-cast-d : (t : ℕ) → search-lts.Need-cast-d (claims t) (search-at t) search′.Post search-Inv-loop search-μ-loop
-search-cast-d t c =
-    let turn = c .before .before .before .before .before .before .before in
-    omega (arith, degree-small (turn .before .loop .inv) (turn .loop-test .taken))
+search-cast-d t c = omega (arith, degree-small (c .before .before .before .before .before .before .before .before .loop .inv) (c .before .before .before .before .before .before .before .loop-test .taken))
 
 search-with-member-requires : (t : ℕ) → search-lts.Need-with-member-requires (claims t) (search-at t) search′.Post search-Inv-loop search-μ-loop
 search-with-member-requires t c κs =
