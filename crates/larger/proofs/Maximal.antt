@@ -72,12 +72,10 @@ module _ {n : ℕ} {t ranks w : List ℕ} {s : Settings} {y : Tally} {m : ℕ} (
       record {
         factor = posed .factor;
         from = omega arith;
-        left = let f = posed .room in omega arith;
-        few = let f = posed .room in omega arith;
+        left = omega arith;
+        few = omega arith;
         sum =
             let k = sum-small n t (posed .set) (lent .table .small) in
-            let a = posed .tally .members in
-            let b = posed .tally .summed in
             omega arith;
         added = λ e h. absurd (omega arith);
         candidates = λ e h.

@@ -68,7 +68,7 @@ module _ {n : ℕ} {t ranks w₀ : List ℕ} {s : Settings} {y : Tally} {base i 
   -- and where it says that from the next on too, candidate j is passed over
   passes : {w₁ : List ℕ} → Kept (n + y .members) (2 * n) w₀ w₁ → findOf graph s added y (drop j candidates) ≡ findOf graph s added y (drop (j + 1) candidates)
       → At n t ranks w₀ s y base i m w₁ (j + 1)
-  passes k e = record { lent = at .lent; room = room; from = let f = at .from in omega arith; kept = k; same = at .same ∙ e }
+  passes k e = record { lent = at .lent; room = room; from = omega arith; kept = k; same = at .same ∙ e }
 
   -- with no candidate left
   pub at-end : m ≤ j → Searched n t w₀ w s y base i m false
@@ -78,7 +78,7 @@ module _ {n : ℕ} {t ranks w₀ : List ℕ} {s : Settings} {y : Tally} {base i 
   pub still-added : part w (n + base) (n + y .members - (n + base)) ≡ added
   still-added =
       ap (part w (n + base)) shorter
-      ∙ part-below _ _ w₀ w (at .kept) (n + base) (y .members - base) (let f = room .from in omega arith)
+      ∙ part-below _ _ w₀ w (at .kept) (n + base) (y .members - base) (omega arith)
     where
       shorter : n + y .members - (n + base) ≡ y .members - base
       shorter = omega arith
@@ -146,10 +146,10 @@ module _ {n : ℕ} {t ranks w₀ : List ℕ} {s : Settings} {y : Tally} {base i 
     taken = set w (n + y .members) candidate
 
     fits : n + y .members < length w
-    fits = let l = room .left in let f = at .from in let k = at .kept .length-kept in let p = at .lent .parts in omega arith
+    fits = omega arith
 
     taken-kept : Kept (n + y .members) (2 * n) w₀ taken
-    taken-kept = kept-set _ _ w₀ w (at .kept) (n + y .members) candidate (omega arith) (let l = room .left in let f = at .from in omega arith)
+    taken-kept = kept-set _ _ w₀ w (at .kept) (n + y .members) candidate (omega arith) (omega arith)
 
     pub lent-next : Lent n t ranks taken
     lent-next =
@@ -181,10 +181,10 @@ module _ {n : ℕ} {t ranks w₀ : List ℕ} {s : Settings} {y : Tally} {base i 
         with-it =
             record {
               factor = room .factor;
-              from = let f = room .from in omega arith;
-              left = let l = room .left in let f = at .from in omega arith;
+              from = omega arith;
+              left = omega arith;
               few = room .few;
-              sum = let d = degree-small inside in let l = room .sum in let k = at .lent .table .small in omega arith;
+              sum = let d = degree-small inside in omega arith;
               added = added-next;
               candidates = λ e h. let k = taken-kept .above (3 * n + e) (omega arith) in let l = room .candidates e h in omega arith;
             }
@@ -205,10 +205,10 @@ module _ {n : ℕ} {t ranks w₀ : List ℕ} {s : Settings} {y : Tally} {base i 
           ∙ ap (λ (v : ℕ). added ++ (v ∷ [])) (sym (is-candidate inside))
         where
           longer : y .members + 1 - base ≡ y .members - base + 1
-          longer = let f = room .from in omega arith
+          longer = omega arith
 
           place : n + base + (y .members - base) ≡ n + y .members
-          place = let f = room .from in omega arith
+          place = omega arith
 
       answer-deep : r ≡ findOf graph s (added ++ (getD candidates j 0 ∷ [])) (withMember y (degree graph (getD candidates j 0))) (drop (j + 1) candidates)
       answer-deep =
