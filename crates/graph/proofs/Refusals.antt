@@ -56,7 +56,7 @@ module _ (G : Graph) where
   unfolding oneWay
   one-way-found u h e =
       let r = test-any u (differ G u) (λ k. test-self) .0 e in
-      any-found (G .size) (λ w. any (G .size) (differ G w)) u h (any-found (G .size) (differ G u) (r .0) (let l = r .1 in omega arith) (r .2))
+      any-found (G .size) (λ w. any (G .size) (differ G w)) u h (any-found (G .size) (differ G u) (r .0) (omega arith) (r .2))
 
   pub one-way-none : ((u : ℕ) → u < G .size → any u (differ G u) ≡ false) → oneWay G ≡ false
   unfolding oneWay

@@ -36,7 +36,7 @@ all-more i p e f = rw (add-one i) (rw (f, e))
 
 module _ (G : Graph) {w : List ℕ} {n k : ℕ} (held : HoldsMembers n w k) where
   fits : n + k ≤ length w
-  fits = let f = held .few in let l = held .parts in omega arith
+  fits = omega arith
 
   before-is : (i : ℕ) → i < k → joinedAll G (getD w (n + i) 0) (part w n (n + i - n)) ≡ joins-before G (part w n k) i
   before-is i h =

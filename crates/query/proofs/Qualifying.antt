@@ -87,10 +87,10 @@ module _ {n : ℕ} {t ranks bs w₀ : List ℕ} {s : Settings} (ready : Ready n 
   -- after the members were written
   module _ {w₁ : List ℕ} {k : ℕ} (wrote : Listed n (n + n) (passing n (is 1 bs)) w₀ w₁ k × (k ≤ n)) where
     long : 8 * n ≤ length w₁
-    long = let r = accepted .room in let l = wrote .0 .kept .length-kept in omega arith
+    long = let r = accepted .room in omega arith
 
     long-members : length (part w₁ n k) ≡ k
-    long-members = let l = long in let f = wrote .1 in part-length w₁ n k (omega arith)
+    long-members = let l = long in part-length w₁ n k (omega arith)
 
     has-members : Members graph members (part w₁ n k)
     has-members =
@@ -182,7 +182,6 @@ module _ {n : ℕ} {t ranks bs w₀ : List ℕ} {s : Settings} (ready : Ready n 
         -- what `beaten` requires
         pub beaten-asks : Lent n t ranks w₂ × Posed n t w₂ s y m
         beaten-asks =
-            let e = found .0 .kept .length-kept in
             let l = long in (
               record { table = accepted .table .fits; ranks-fit = ready .ranks-fit; degrees = ready .degrees; parts = omega arith },
               record {
@@ -192,7 +191,6 @@ module _ {n : ℕ} {t ranks bs w₀ : List ℕ} {s : Settings} (ready : Ready n 
                     let a = tally .members in
                     let b = both-fit graph members in
                     let c = ap length candidates-are in
-                    let f = found .1 in
                     let p = part-length w₂ (3 * n) m (omega arith) in
                     let z = table-size n t in
                     omega arith;

@@ -16,12 +16,7 @@ returns : tie.Need-returns
 returns c = hopeless-min _ _ _ _ _ _ (c .if1 .taken)
 
 mul-less : tie.Need-mul-less
-mul-less c =
-    let others = c .before .before .before .before .before in
-    let start = others .before .before in
-    let o = others .less .ensures in
-    let k = start .pre .members in
-    omega (arith, product-small (start .args .t .members) (others .less .result) (omega arith) (omega arith))
+mul-less c = omega (arith, product-small (c .before .before .before .before .before .before .before .args .t .members) (c .before .before .before .before .before .less .result) (omega arith) (omega arith))
 
 less-requires-2 : tie.Need-less-requires-2
 less-requires-2 c κs = search needs

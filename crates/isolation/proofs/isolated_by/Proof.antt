@@ -23,12 +23,7 @@ returns c =
     (c .before .less2 .ensures) (c .within .ensures)
 
 mul-less : tie.Need-mul-less
-mul-less c =
-    let others = c .before .before .before .before .before in
-    let start = others .before in
-    let o = others .less .ensures in
-    let k = start .pre .members in
-    omega (arith, product-small (start .args .t .members) (others .less .result) k (omega arith))
+mul-less c = omega (arith, product-small (c .before .before .before .before .before .before .args .t .members) (c .before .before .before .before .before .less .result) (omega arith) (omega arith))
 
 less-requires-3 : tie.Need-less-requires-3
 less-requires-3 c κs = search needs
