@@ -1,14 +1,13 @@
 -- The refusals of the settings and of a set query by the outcome of each test, and what an accepted set query has.
 -- Assumes nothing.
 use Prim.Native.Nat.{ℕ, _*_, _≤_}
-use mathlib.Core.Path.{_≡_, refl, sym, _∙_}
-use mathlib.Core.Bool.{Bool, true, false, _||_, not, true≢false}
+use mathlib.Core.Path.{_≡_, sym, _∙_}
+use mathlib.Core.Bool.{Bool, _||_, not}
 use mathlib.Core.List.{List}
-use mathlib.Core.Logic.{_≢_, _⊎_, inl, inr}
-use native.Mathlib.Omega.{arith}
+use mathlib.Core.Logic.{_≢_}
 use lib.ListN.{length}
 use lib.Dec.{ltb, eqb}
-use borrow.Author.Tests.{ltb-false, eqb-true, eqb-false, not-false}
+use borrow.Author.Tests.{ltb-false, eqb-true, not-false}
 use Rattle.model.specs.Groups.{Settings}
 use Rattle.model.specs.Calls.{refuse, over, refuseTable, refuseSettings, refuseLengths, refuseQuery}
 use Rattle.theory.proofs.basics.Gates.{Gate, gate-one, gate-then, gate-passed}

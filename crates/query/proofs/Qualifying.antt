@@ -1,24 +1,24 @@
 -- Whether a set qualifies, from what each step of the set query gives.
 -- Assumes nothing.
-use Prim.Native.Nat.{ℕ, _+_, _*_, _≤_, _<_}
+use Prim.Native.Nat.{ℕ, _+_, _*_, _≤_}
 use mathlib.Core.Path.{_≡_, refl, sym, ap, _∙_, subst}
 use mathlib.Core.Bool.{Bool, true, false, _&&_, not, true≢false}
 use mathlib.Core.List.{List}
-use mathlib.Core.Logic.{_≢_, _⊎_, inl, inr}
+use mathlib.Core.Logic.{_≢_}
 use native.Mathlib.Omega.{arith}
 use lib.ListN.{length, getD}
-use Rattle.model.specs.Below.{count, passing}
+use Rattle.model.specs.Below.{passing}
 use Rattle.model.specs.Graph.{Graph, byTable}
 use Rattle.model.specs.Groups.{VertexSet, sizeOf, qualifies}
 use Rattle.model.specs.Meaning.{Clique}
 use Rattle.model.specs.Listing.{is}
 use Rattle.theory.specs.Search.{Loopless, Symmetric, common, joinedAll, Members, Candidates}
 use Rattle.model.specs.Calls.{byBytes}
-use Rattle.theory.proofs.basics.Tests.{Test, trichotomy, count-le, fails}
+use Rattle.theory.proofs.basics.Tests.{Test, fails}
 use Rattle.theory.proofs.basics.Counting.{count-sub, count-all, count-split}
 use Rattle.theory.proofs.graph.Meaning.{qualifies-iff}
 use Rattle.theory.proofs.graph.Cliques.{common-test}
-use Rattle.theory.proofs.basics.Passing.{passing-listed, passing-has, passing-rises, passing-candidates}
+use Rattle.theory.proofs.basics.Passing.{passing-listed, passing-has, passing-once, passing-candidates}
 use Rattle.theory.proofs.basics.PassingParts.{passing-same, passing-count}
 use Rattle.theory.proofs.search.Members.{common-list}
 use Rattle.theory.proofs.search.Maximal.{qualifies-tally}
@@ -40,18 +40,8 @@ passing-members G S =
     record {
       sound = λ i h. passing-listed S (G .size) (getD (passing (G .size) S) i 0) (i, h, refl);
       complete = λ v h. passing-has S (G .size) v (h .0) (h .1);
-      once = λ i j hi hj e. go i j hi hj e (trichotomy i j);
+      once = passing-once S (G .size);
     }
-  where
-    go : (i j : ℕ) → i < length (passing (G .size) S) → j < length (passing (G .size) S) → getD (passing (G .size) S) i 0 ≡ getD (passing (G .size) S) j 0
-        → (i < j) ⊎ (i ≡ j) ⊎ (j < i) → i ≡ j
-    go i j hi hj e (inl l) = let r = passing-rises S (G .size) i j l hj in absurd (omega arith)
-    go i j hi hj e (inr (inl l)) = l
-    go i j hi hj e (inr (inr l)) = let r = passing-rises S (G .size) j i l hi in absurd (omega arith)
-
-size-is : (G : Graph) (S : VertexSet) → sizeOf G S ≡ count (G .size) S
-unfolding sizeOf
-size-is G S = refl
 
 -- a set and its common neighbours are no more than the vertices
 both-fit : (G : Graph) (S : VertexSet) → sizeOf G S + length (passing (G .size) (common G S)) ≤ G .size
@@ -149,8 +139,7 @@ module _ {n : ℕ} {t ranks bs w₀ : List ℕ} {s : Settings} (ready : Ready n 
             factor = accepted .factor;
             members =
                 let a = tally .members in
-                let b = count-le (graph .size) members in
-                let c = size-is graph members in
+                let b = both-fit graph members in
                 let d = accepted .table .fits .small in
                 let z = table-size n t in
                 omega arith;

@@ -113,6 +113,15 @@ module _ (p : ℕ → Bool) where
           let s : passing n p ≡ passing (suc n) p = sym (passing-miss n e) ∙ ap (λ (k : ℕ). passing k p) (add-one n) in
           subst (λ (u : List ℕ). getD u i 0 < getD u j 0) s (ih (subst (λ (u : List ℕ). j < length u) (sym s) l))
 
+  -- so each stands there once
+  pub passing-once : (n i j : ℕ) → i < length (passing n p) → j < length (passing n p) → getD (passing n p) i 0 ≡ getD (passing n p) j 0 → i ≡ j
+  passing-once n i j hi hj e = go (trichotomy i j)
+    where
+      go : (i < j) ⊎ (i ≡ j) ⊎ (j < i) → i ≡ j
+      go (inl h) = let r = passing-rises n i j h hj in absurd (omega arith)
+      go (inr (inl s)) = s
+      go (inr (inr h)) = let r = passing-rises n j i h hi in absurd (omega arith)
+
 -- so the vertices that pass the test are the candidates
 pub passing-candidates : (G : Graph) (S : VertexSet) → Candidates G S (passing (G .size) (common G S))
 passing-candidates G S =
@@ -154,18 +163,11 @@ module _ (G : Graph) (p : Position) where
       (m .0, omega arith, taken-at (m .0) (m .1) ∙ ap (vertexAt G) (m .2) ∙ vertex-of G v (h .0))
 
   taken-once : (i j : ℕ) → i < length ranks → j < length ranks → getD (takenList G p) i 0 ≡ getD (takenList G p) j 0 → i ≡ j
-  taken-once i j hi hj e = go (trichotomy i j)
-    where
-      same : getD ranks i 0 ≡ getD ranks j 0
-      same =
-          sym (vertex-at G (getD ranks i 0) (taken-rank i hi .0) .1)
-          ∙ ap (rankOf G) (sym (taken-at i hi) ∙ e ∙ taken-at j hj)
-          ∙ vertex-at G (getD ranks j 0) (taken-rank j hj .0) .1
-
-      go : (i < j) ⊎ (i ≡ j) ⊎ (j < i) → i ≡ j
-      go (inl h) = let r = passing-rises (is 1 p) (G .size) i j h hj in let s = same in absurd (omega arith)
-      go (inr (inl s)) = s
-      go (inr (inr h)) = let r = passing-rises (is 1 p) (G .size) j i h hi in let s = same in absurd (omega arith)
+  taken-once i j hi hj e =
+      passing-once (is 1 p) (G .size) i j hi hj
+      (sym (vertex-at G (getD ranks i 0) (taken-rank i hi .0) .1)
+      ∙ ap (rankOf G) (sym (taken-at i hi) ∙ e ∙ taken-at j hj)
+      ∙ vertex-at G (getD ranks j 0) (taken-rank j hj .0) .1)
 
   -- the vertices whose ranks are taken, in rank order, are the members of the taken set
   pub taken-members : Members G (takenSet G p) (takenList G p)
