@@ -25,15 +25,14 @@ use Rattle.theory.proofs.graph.Ranks.{rank-below, rank-once, rank-degree, verte
 use Rattle.theory.proofs.graph.Meaning.{qualifies-iff}
 use Rattle.theory.proofs.graph.Degrees.{least-bound, largest-bound, least-member, largest-member}
 use Rattle.theory.proofs.graph.Cliques.{common-test}
-use Rattle.theory.proofs.basics.Passing.{passing-listed, passing-has, passing-rises, taken-members}
+use Rattle.theory.proofs.basics.Passing.{passing-listed, passing-has, passing-rises, map-at, taken-members}
 use Rattle.theory.proofs.walk.Moves.{has-found, has-none}
 use Rattle.theory.proofs.search.Members.{tally-none, tally-next, tally-all, common-list}
 use Rattle.theory.proofs.walk.Lawful.{apart-test}
 use Rattle.theory.proofs.search.Maximal.{qualifies-tally}
 use Rattle.walk.specs.State.{leftRanks, degreesOf}
 use Rattle.emit.specs.Qualify.{joinedOf, candidatesOf}
-use Rattle.walk.proofs.Lists.{map-at}
-use Rattle.walk.proofs.Decided.{degrees-none, degrees-more}
+use Rattle.walk.proofs.Taken.{degrees-none, degrees-more}
 
 -- ---- lists
 

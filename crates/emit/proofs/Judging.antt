@@ -27,8 +27,8 @@ use Rattle.theory.proofs.basics.Parts.{part-below, part-above}
 use Rattle.walk.specs.declared.State.{State}
 use Rattle.walk.specs.State.{takenRanks, leftRanks, Stands}
 use Rattle.emit.specs.Qualify.{joinedOf, candidatesOf, Sifts, Sifted, tallyOf, readTally, TallyFits, Asks, SaysQualifies}
-use Rattle.walk.proofs.Decided.{taken-length}
-use Rattle.walk.proofs.Standing.{taken-count, left-count, vertex-entry, left-entry}
+use Rattle.walk.proofs.Taken.{taken-length}
+use Rattle.walk.proofs.StandsFor.{taken-count, left-count, vertex-entry, left-entry}
 use Rattle.emit.proofs.Found.{taken-tally, taken-clique, taken-candidates, found-apart, found-untaken, found-open, found-by}
 
 -- two tests of which no number passes both pass no more than n numbers below n

@@ -15,7 +15,7 @@ use Rattle.graph.proofs.Ranks.{table-size}
 use Rattle.theory.specs.Parts.{part, Kept, HoldsVertices}
 use Rattle.theory.proofs.basics.Parts.{part-length, part-at, part-push, part-below, kept-none, kept-set}
 use Rattle.emit.specs.Qualify.{joinedOf, Sifts, Sifted}
-use Rattle.walk.proofs.Lists.{map-at}
+use Rattle.theory.proofs.basics.Passing.{map-at}
 use Rattle.emit.proofs.Found.{joinedOf-none, joinedOf-push}
 
 -- the left vertices

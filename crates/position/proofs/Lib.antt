@@ -1,2 +1,2 @@
 -- Laws.
-pub mod Positions
+pub mod Refusals

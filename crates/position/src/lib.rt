@@ -1,4 +1,5 @@
-// The refusals of a position, 21 to 23. They read the table, the rank order and the position, and write nothing.
+// The refusals of a position, 21 to 23: document 01, "Turned back by the state". They read the table, the rank order and the position, and write
+// nothing. Document 01, "The walk": a position has one byte a rank, 0 open, 1 taken and 2 left.
 ghost use mathlib.Core.Path.{_≡_};
 ghost use Prim.Native.Nat.{_≤_, _<_};
 ghost use lib.ListN.{length};
@@ -9,6 +10,9 @@ ghost use Rattle.model.specs.Listing.{is, adjacent, apart, leftNeighbours, dead
 ghost use Rattle.model.specs.Calls.{gap, refusePosition};
 ghost use Rattle.graph.specs.Ranks.{HoldsRanks};
 ghost use Rattle.position.specs.Position.{stranger, apartAt, leftNeighbour};
+use graph::any_over;
+use graph::entry_at;
+use graph::joined;
 
 // The lowest rank whose byte is x, and the position's length where there is none. Reads the position up to it.
 fn lowest(x: u8, position: &[u8]) -> usize
@@ -31,7 +35,7 @@ pub fn decided_count(position: &[u8]) -> usize
     lowest(0, position)
 }
 
-// Whether a decided rank comes after an open one. Reads the position.
+// Refusal 22: whether a decided rank comes after an open one. Reads the position.
 fn has_gap(position: &[u8]) -> bool
     ensures { λ r. ⌜ r ≡ gap (now (position .entry)) ⌝ }
 {
@@ -45,21 +49,14 @@ fn has_gap(position: &[u8]) -> bool
     false
 }
 
-// An entry as an index.
-fn wide(x: u16) -> usize
-    ensures { λ r. ⌜ r ≡ x ⌝ }
-{
-    x as usize
-}
-
 // Whether the vertices at ranks a and b are joined, of the graph on n vertices that the table holds and whose rank order `ranks` holds.
 fn adjacent_at(table: &[u8], ranks: &[u16], n: usize, a: usize, b: usize) -> bool
     requires { ⌜ HoldsRanks n (now table) (now ranks) × (a < n) × (b < n) ⌝ }
     ensures { λ r. ⌜ r ≡ adjacent (byTable n (now (table .entry))) a b ⌝ }
 {
-    let u = wide(ranks[a]);
-    let v = wide(ranks[b]);
-    graph::joined(table, n, u, v)
+    let u = entry_at(ranks, a);
+    let v = entry_at(ranks, b);
+    joined(table, n, u, v)
 }
 
 // Whether rank i of a position is taken and not adjacent to rank s.
@@ -124,7 +121,7 @@ fn is_left_neighbour(
     adjacent_at(table, ranks, n, pivot, i)
 }
 
-// How many left ranks of a position are adjacent to the rank `pivot`. Reads the position.
+// How many left ranks of a position are adjacent to the rank `pivot`: these stay outside every set that the position leads to. Reads the position.
 fn left_of_pivot(table: &[u8], ranks: &[u16], n: usize, position: &[u8], pivot: usize) -> usize
     requires { ⌜ HoldsRanks n (now table) (now ranks) × (length (now position) ≤ n) × (pivot < n) ⌝ }
     ensures { λ r. ⌜ r ≡ leftNeighbours (byTable n (now (table .entry))) (now (position .entry)) pivot ⌝ }
@@ -140,7 +137,8 @@ fn left_of_pivot(table: &[u8], ranks: &[u16], n: usize, position: &[u8], pivot: 
     sum
 }
 
-// Whether a position is dead; ranks past its end are open. Reads the position.
+// Whether a position is dead; ranks past its end are open. Document 01, "The walk": two taken ranks are not adjacent, or something is taken and at
+// least c neighbours of the pivot are left, which by documents 000 and 002 leaves no isolated clique with that pivot. Reads the position.
 fn is_dead(table: &[u8], ranks: &[u16], n: usize, c: u32, position: &[u8]) -> bool
     requires { ⌜ HoldsRanks n (now table) (now ranks) × (length (now position) ≤ n) ⌝ }
     ensures { λ r. ⌜ r ≡ dead (byTable n (now (table .entry))) c (now (position .entry)) ⌝ }
@@ -148,6 +146,7 @@ fn is_dead(table: &[u8], ranks: &[u16], n: usize, c: u32, position: &[u8]) -> bo
     if is_apart(table, ranks, n, position) {
         return true;
     }
+    // Document 01, "Graph and ranks": the pivot is the member of lowest rank.
     let pivot = lowest(1, position);
     if pivot == position.len() {
         return false;
@@ -155,8 +154,9 @@ fn is_dead(table: &[u8], ranks: &[u16], n: usize, c: u32, position: &[u8]) -> bo
     c as usize <= left_of_pivot(table, ranks, n, position, pivot)
 }
 
-// The refusal number of a position of n ranks, whatever its bytes: 21, 22 or 23, and 0 where all three tests pass. The number of decided ranks is
-// read off the position; what is tested for 23 is the part before the last of them. Reads the position.
+// The refusal number of a position of n ranks, whatever its bytes. Document 01, "Turned back by the state": 21 a byte over 2; 22 a decided rank
+// after an open one; 23 the position with its last decided rank opened is dead, and fresh passes. 0 where all three tests pass. What is tested for
+// 23 is the part before the last decided rank. Reads the position.
 pub fn position_refusal(table: &[u8], ranks: &[u16], n: usize, c: u32, position: &[u8]) -> u32
     requires { ⌜ HoldsRanks n (now table) (now ranks) × (length (now position) ≡ n) ⌝ }
     ensures { λ r. ⌜
@@ -164,7 +164,7 @@ pub fn position_refusal(table: &[u8], ranks: &[u16], n: usize, c: u32, position:
         → r ≡ refusePosition (rules (byTable n (now (table .entry))) s) (now (position .entry)))
         ⌝ }
 {
-    if graph::any_over(2, position) {
+    if any_over(2, position) {
         return 21;
     }
     if has_gap(position) {

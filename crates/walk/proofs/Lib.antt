@@ -1,9 +1,8 @@
 -- Laws.
-pub mod Decided
+pub mod Taken
+pub mod NextRank
+pub mod StandsFor
+pub mod RankPushed
 pub mod Opened
-pub mod Standing
-pub mod Leaving
-pub mod Pushing
-pub mod Stepping
-pub mod Reading
-pub mod Lists
+pub mod HighestTaken
+pub mod OneStep

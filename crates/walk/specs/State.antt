@@ -2,7 +2,7 @@
 -- Assumes nothing.
 use Prim.Native.Nat.{ℕ, _+_, _*_, _≤_, _<_}
 use mathlib.Core.Path.{_≡_}
-use mathlib.Core.Bool.{_&&_}
+use mathlib.Core.Bool.{Bool, _&&_}
 use mathlib.Core.Logic.{_≢_}
 use mathlib.Core.List.{List, [], _∷_}
 use lib.ListN.{length, getD}
@@ -17,9 +17,13 @@ use Rattle.walk.specs.declared.State.{State}
 unfoldable pub takenRanks : Graph → Position → List ℕ
 takenRanks G p = passing (G .size) (is 1 p)
 
+-- something is taken, and rank r is left and adjacent to the pivot
+abbrev pub leftOfPivot : Graph → Position → ℕ → Bool
+leftOfPivot G p r = has 1 p && is 2 p r && adjacent G (pivot G p) r
+
 -- the left ranks that are adjacent to the pivot, lowest first; none where nothing is taken
 unfoldable pub leftRanks : Graph → Position → List ℕ
-leftRanks G p = passing (G .size) (λ r. has 1 p && is 2 p r && adjacent G (pivot G p) r)
+leftRanks G p = passing (G .size) (leftOfPivot G p)
 
 -- the degrees of the vertices, summed
 unfoldable pub degreesOf : Graph → List ℕ → ℕ

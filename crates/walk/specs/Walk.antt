@@ -5,16 +5,15 @@ use mathlib.Core.Path.{_≡_}
 use mathlib.Core.Bool.{Bool}
 use mathlib.Core.List.{List}
 use lib.ListN.{length, getD}
-use Rattle.model.specs.Below.{passing}
 use Rattle.model.specs.Graph.{Graph, byTable}
 use Rattle.model.specs.Groups.{Factor}
 use Rattle.model.specs.Walk.{Position, Rules, finished, step}
-use Rattle.model.specs.Listing.{adjacent, dead, rules}
+use Rattle.model.specs.Listing.{dead, rules}
 use Rattle.model.specs.Calls.{refuseTable, refusePosition}
 use Rattle.graph.specs.Table.{TableFits}
 use Rattle.graph.specs.Ranks.{HoldsRanks}
-use Rattle.theory.specs.Parts.{part}
-use Rattle.walk.specs.State.{Stands}
+use Rattle.theory.specs.Parts.{part, Kept}
+use Rattle.walk.specs.State.{leftRanks, Stands}
 use Rattle.walk.specs.declared.State.{State}
 
 -- the rules of a graph at a factor. Document 01, "The walk": dead doesn't depend on notion or kind, so any serve
@@ -45,16 +44,19 @@ pub record Misses (n : ℕ) (t w : List ℕ) (k v : ℕ) : Type 0 where
   pub vertices : (j : ℕ) → j < k → getD w (n + j) 0 < n
   pub vertex : v < n
 
--- part 2 holds the m ranks below d that are adjacent to d, lowest first
-pub record BelowIn (G : Graph) (d : ℕ) (w : List ℕ) (m : ℕ) : Type 0 where
-  pub few : m ≤ d
-  pub holds : part w (2 * G .size) m ≡ passing d (adjacent G d)
+-- As the next rank is taken: part 2 holds the m left neighbours of the pivot of every position that then has it taken, and all else is as it was.
+pub record LeftOnceTaken (G : Graph) (w : List ℕ) (s : State) (w₂ : List ℕ) (m : ℕ) : Type 0 where
+  pub holds : (p q : Position) → Stands G p w s → Decides (s .decided) 1 p q → part w₂ (2 * G .size) m ≡ leftRanks G q
+  pub few : m ≤ s .decided
+  pub kept : Kept (2 * G .size) (3 * G .size) w w₂
 
--- m of the first k entries of part 2 are kept: the others, the last ones, are r or more, and the last one kept is less
-pub record Trimmed (n : ℕ) (w : List ℕ) (k r m : ℕ) : Type 0 where
-  pub fewer : m ≤ k
-  pub dropped : (j : ℕ) → m ≤ j → j < k → r ≤ getD w (2 * n + j) 0
-  pub kept : 0 < m → getD w (2 * n + (m - 1)) 0 < r
+-- Of the first m entries of part 2 some are kept, where k ranks stay taken: none where k is 0; else the others, the last ones, are r or more, and
+-- the last one kept is less.
+pub record Trimmed (n : ℕ) (w : List ℕ) (k m r kept : ℕ) : Type 0 where
+  pub none : k ≡ 0 → kept ≡ 0
+  pub fewer : kept ≤ m
+  pub dropped : 0 < k → (j : ℕ) → kept ≤ j → j < m → r ≤ getD w (2 * n + j) 0
+  pub last-kept : 0 < kept → getD w (2 * n + (kept - 1)) 0 < r
 
 -- the ranks from a to below e are open, and the others are as they were
 pub record RanksOpened (a e : ℕ) (p q : Position) : Type 0 where

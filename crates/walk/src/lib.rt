@@ -11,7 +11,8 @@ ghost use Rattle.model.specs.Listing.{apart};
 ghost use Rattle.model.specs.Calls.{over, gap, reopened};
 ghost use Rattle.graph.specs.Ranks.{HoldsRanks};
 ghost use Rattle.walk.specs.State.{Stands, StandsForOne};
-ghost use Rattle.walk.specs.Walk.{Pushed, Misses, BelowIn, Trimmed, RanksOpened, SaysFinished, SaysDead, Moved, Walking, Stepped};
+ghost use Rattle.walk.specs.Walk.{Pushed, Misses, LeftOnceTaken, Trimmed, RanksOpened, SaysFinished, SaysDead, Moved, Walking, Stepped};
+use graph::entry_at;
 use graph::joined;
 
 // What a page keeps beside the position and the work slice: how many ranks are decided, how many of them are taken, how many neighbours of the
@@ -24,13 +25,6 @@ pub struct State {
     pub apart: bool,
 }
 
-// An entry as a number of the machine's width.
-fn wide(x: u16) -> usize
-    ensures { λ r. ⌜ r ≡ x ⌝ }
-{
-    x as usize
-}
-
 // Whether a or b holds.
 fn either(a: bool, b: bool) -> bool
     ensures { λ r. ⌜ r ≡ (a || b) ⌝ }
@@ -41,7 +35,7 @@ fn either(a: bool, b: bool) -> bool
     b
 }
 
-// Whether the walk is finished: all ranks are decided and nothing is taken.
+// Whether the walk is finished. Document 01, "The walk": finished is all 2, so all ranks are decided and nothing is taken.
 pub fn finished(s: State, n: usize) -> bool
     ensures { λ r. ⌜ SaysFinished n s r ⌝ }
 {
@@ -53,7 +47,8 @@ pub fn finished(s: State, n: usize) -> bool
     taken == 0
 }
 
-// Whether the position is dead: two taken ranks are not adjacent, or something is taken and at least c neighbours of the pivot are left.
+// Whether the position is dead. Document 01, "The walk": two taken ranks are not adjacent, or something is taken and at least c neighbours of the
+// pivot are left. The pivot has the least outside count of a clique, so then no notion of document 002, section 2.1, can hold.
 pub fn is_dead(s: State, c: usize) -> bool
     ensures { λ r. ⌜ SaysDead c s r ⌝ }
 {
@@ -77,7 +72,7 @@ fn misses_one(table: &[u8], n: usize, work: &[u16], k: usize, v: usize) -> bool
     let mut j = k;
     while 0 < j {
         let last = j - 1;
-        let u = wide(work[n + last]);
+        let u = entry_at(work, n + last);
         if !joined(table, n, u, v) {
             return true;
         }
@@ -86,16 +81,23 @@ fn misses_one(table: &[u8], n: usize, work: &[u16], k: usize, v: usize) -> bool
     false
 }
 
-// Writes the ranks below d that are adjacent to d into part 2 of work, lowest first, and says how many. Reads the ranks below d.
-fn push_below(table: &[u8], ranks: &[u16], n: usize, d: usize, work: &mut [u16]) -> usize
-    requires { ⌜ HoldsRanks n (now table) (now ranks) × (d < n) × (8 * n ≤ length (now work)) ⌝ }
-    ensures { λ r. ⌜ BelowIn (byTable n (now (table .entry))) d (now (work .exit)) r ⌝ }
+// How many neighbours of the pivot are left once the next rank, d, is taken; part 2 of work then holds them, lowest first. Document 01, "Graph and
+// ranks", after documents 000 and 002: the pivot is the member of lowest rank, one of least degree. So it stays where something is taken. Else it
+// is d, and the ranks below d, which are all left, are looked through once.
+fn left_once_taken(s: State, table: &[u8], ranks: &[u16], n: usize, work: &mut [u16]) -> usize
+    requires { ⌜ HoldsRanks n (now table) (now ranks) × StandsForOne (byTable n (now table)) (now work) s × (s .decided < n) ⌝ }
+    ensures { λ m. ⌜ LeftOnceTaken (byTable n (now (table .entry))) (now (work .entry)) s (now (work .exit)) m ⌝ }
 {
-    let v = wide(ranks[d]);
+    let d = s.decided;
+    let k = s.taken;
+    if 0 < k {
+        return s.left;
+    }
+    let v = entry_at(ranks, d);
     let mut m: usize = 0;
     let mut i = 0;
     while i < d {
-        let u = wide(ranks[i]);
+        let u = entry_at(ranks, i);
         if joined(table, n, v, u) {
             work[2 * n + m] = i as u16;
             m += 1;
@@ -105,59 +107,26 @@ fn push_below(table: &[u8], ranks: &[u16], n: usize, d: usize, work: &mut [u16])
     m
 }
 
-// The state with the next rank taken as the first of all, the pivot. Looks once through the ranks below it, which are all left.
-fn push_pivot(s: State, table: &[u8], ranks: &[u16], n: usize, work: &mut [u16]) -> State
-    requires { ⌜ HoldsRanks n (now table) (now ranks) × StandsForOne (byTable n (now table)) (now work) s × (s .decided < n) × (s .taken ≡ 0) ⌝ }
-    ensures { λ r. ⌜ Pushed (byTable n (now (table .entry))) 1 (now (work .entry)) s (now (work .exit)) r ⌝ }
-{
-    let d = s.decided;
-    let v = ranks[d];
-    let u = wide(v);
-    let degree = wide(ranks[n + u]);
-    let m = push_below(table, ranks, n, d, work);
-    work[0] = d as u16;
-    work[n] = v;
-    State {
-        decided: d + 1,
-        taken: 1,
-        left: m,
-        sum: degree,
-        apart: false,
-    }
-}
-
-// The state with the next rank taken where something is taken already. Tests its vertex against the taken ones.
-fn push_member(s: State, table: &[u8], ranks: &[u16], n: usize, work: &mut [u16]) -> State
-    requires { ⌜ HoldsRanks n (now table) (now ranks) × StandsForOne (byTable n (now table)) (now work) s × (s .decided < n) × (0 < s .taken) ⌝ }
-    ensures { λ r. ⌜ Pushed (byTable n (now (table .entry))) 1 (now (work .entry)) s (now (work .exit)) r ⌝ }
-{
-    let d = s.decided;
-    let k = s.taken;
-    let v = ranks[d];
-    let u = wide(v);
-    let degree = wide(ranks[n + u]);
-    let apart = either(s.apart, misses_one(table, n, work, k, u));
-    work[k] = d as u16;
-    work[n + k] = v;
-    State {
-        decided: d + 1,
-        taken: k + 1,
-        left: s.left,
-        sum: s.sum + degree,
-        apart,
-    }
-}
-
-// The state with the next rank taken. Does not touch the position.
+// The state with the next rank taken: its vertex is tested against the taken ones. Does not touch the position.
 pub fn push_taken(s: State, table: &[u8], ranks: &[u16], n: usize, work: &mut [u16]) -> State
     requires { ⌜ HoldsRanks n (now table) (now ranks) × StandsForOne (byTable n (now table)) (now work) s × (s .decided < n) ⌝ }
     ensures { λ r. ⌜ Pushed (byTable n (now (table .entry))) 1 (now (work .entry)) s (now (work .exit)) r ⌝ }
 {
+    let d = s.decided;
     let k = s.taken;
-    if k == 0 {
-        return push_pivot(s, table, ranks, n, work);
+    let v = entry_at(ranks, d);
+    let degree = entry_at(ranks, n + v);
+    let apart = either(s.apart, misses_one(table, n, work, k, v));
+    let left = left_once_taken(s, table, ranks, n, work);
+    work[k] = d as u16;
+    work[n + k] = v as u16;
+    State {
+        decided: d + 1,
+        taken: k + 1,
+        left,
+        sum: s.sum + degree,
+        apart,
     }
-    push_member(s, table, ranks, n, work)
 }
 
 // The state with the next rank left: a neighbour of the pivot goes onto part 2. Does not touch the position.
@@ -177,8 +146,8 @@ pub fn push_left(s: State, table: &[u8], ranks: &[u16], n: usize, work: &mut [u1
             apart: s.apart,
         };
     }
-    let p = wide(work[n]);
-    let v = wide(ranks[d]);
+    let p = entry_at(work, n);
+    let v = entry_at(ranks, d);
     if joined(table, n, p, v) {
         work[2 * n + m] = d as u16;
         return State {
@@ -198,7 +167,7 @@ pub fn push_left(s: State, table: &[u8], ranks: &[u16], n: usize, work: &mut [u1
     }
 }
 
-// Takes the lowest open rank.
+// Document 01, "The walk": the lowest open rank becomes taken.
 pub fn take(
     s: State,
     table: &[u8],
@@ -227,24 +196,28 @@ fn open_ranks(position: &mut [u8], a: usize, e: usize)
     }
 }
 
-// How many of the first k entries of part 2 stay when rank r and all after it open. Reads those that do not, and one more.
-fn trim(work: &[u16], n: usize, k: usize, r: usize) -> usize
-    requires { ⌜ 2 * n + k ≤ length (now work) ⌝ }
-    ensures { λ m. ⌜ Trimmed n (now (work .entry)) k r m ⌝ }
+// How many of the first m entries of part 2 stay when rank r and all after it open and k ranks are taken before it: none where k is 0, since then
+// there is no pivot. Reads those that do not stay, and one more.
+fn trim(work: &[u16], n: usize, k: usize, m: usize, r: usize) -> usize
+    requires { ⌜ 2 * n + m ≤ length (now work) ⌝ }
+    ensures { λ kept. ⌜ Trimmed n (now (work .entry)) k m r kept ⌝ }
 {
-    let mut m = k;
-    while 0 < m {
-        let last = m - 1;
-        if wide(work[2 * n + last]) < r {
-            return m;
-        }
-        m = last;
+    if k == 0 {
+        return 0;
     }
-    m
+    let mut kept = m;
+    while 0 < kept {
+        let last = kept - 1;
+        if entry_at(work, 2 * n + last) < r {
+            return kept;
+        }
+        kept = last;
+    }
+    kept
 }
 
-// Leaves the highest taken rank and opens all ranks after it. The taken ranks before it are pairwise adjacent, as long as the position with its
-// last decided rank opened was not dead.
+// Document 01, "The walk": the highest taken rank becomes left and all ranks after it become open. The taken ranks before it are pairwise adjacent,
+// as long as the position with its last decided rank opened was not dead.
 pub fn back(
     s: State,
     table: &[u8],
@@ -258,33 +231,23 @@ pub fn back(
 {
     let d = s.decided;
     let k = s.taken - 1;
-    let m = s.left;
-    let r = wide(work[k]);
-    let next = r + 1;
-    position[r] = 2;
-    open_ranks(position, next, d);
-    if k == 0 {
-        return State {
-            decided: next,
-            taken: 0,
-            left: 0,
-            sum: 0,
-            apart: false,
-        };
-    }
-    let v = wide(work[n + k]);
-    let degree = wide(ranks[n + v]);
+    let r = entry_at(work, k);
+    let v = entry_at(work, n + k);
+    let degree = entry_at(ranks, n + v);
     let rest = State {
         decided: r,
         taken: k,
-        left: trim(work, n, m, r),
+        left: trim(work, n, k, s.left, r),
         sum: s.sum - degree,
         apart: false,
     };
+    position[r] = 2;
+    open_ranks(position, r + 1, d);
     push_left(rest, table, ranks, n, work)
 }
 
-// One step from a position that is not finished: live with an open rank, that rank is taken; otherwise the highest taken rank is left.
+// One step from a position that is not finished. Document 01, "The walk": live with an open rank, the lowest open rank is taken; otherwise the
+// highest taken rank is left.
 pub fn step(
     s: State,
     table: &[u8],
@@ -308,7 +271,7 @@ pub fn step(
     back(s, table, ranks, n, position, work)
 }
 
-// The state with the next rank decided as the mark says, 1 taken and 2 left.
+// The state with the next rank decided as the mark says. Document 01, "The walk": 1 is taken and 2 is left.
 fn push(s: State, mark: u8, table: &[u8], ranks: &[u16], n: usize, work: &mut [u16]) -> State
     requires { ⌜ HoldsRanks n (now table) (now ranks) × StandsForOne (byTable n (now table)) (now work) s × (s .decided < n) × (0 < mark) × (mark ≤ 2) ⌝ }
     ensures { λ r. ⌜ Pushed (byTable n (now (table .entry))) mark (now (work .entry)) s (now (work .exit)) r ⌝ }

@@ -1,4 +1,4 @@
--- `page::position::has_gap` meets its contract: from the lowest open rank on, no rank that was passed is decided.
+-- `position::has_gap` meets its contract: from the lowest open rank on, no rank that was passed is decided.
 -- Assumes nothing.
 use Prim.Native.Nat.{ℕ, _-_, _≤_, _<_}
 use mathlib.Core.Path.{_≡_, sym, ap, _∙_}
@@ -34,7 +34,7 @@ returns : tie.Need-returns Inv-loop μ-loop
 returns c =
     let l = c .before .before .before .loop in
     sym
-    (gap-found (c .before .before .before .before .before .before .args .position .now) (l .i)
+    (gap-found _ (l .i)
     (omega (arith, c .before .before .before .before .decided-count .ensures, l .inv .1)) (omega arith) (c .if1 .taken))
 
 add-i : tie.Need-add-i Inv-loop μ-loop
@@ -55,7 +55,7 @@ returns-2 : tie.Need-returns-2 Inv-loop μ-loop
 returns-2 c =
     let l = c .before .loop in
     sym
-    (gap-none (c .before .before .before .before .args .position .now)
+    (gap-none _
     (λ k a b. l .inv .2 k (omega (arith, c .before .before .decided-count .ensures)) (omega arith)))
 
 pub has-gap-spec : {M : Type 1} → statement M

@@ -1,4 +1,4 @@
--- `page::position::is_apart` meets its contract: no rank that was passed is taken with a taken rank below it that is not adjacent to it.
+-- `position::is_apart` meets its contract: no rank that was passed is taken with a taken rank below it that is not adjacent to it.
 -- Assumes nothing.
 use Prim.Native.Nat.{ℕ, _-_, _≤_, _<_}
 use mathlib.Core.Path.{_≡_, sym, _∙_}
@@ -9,7 +9,7 @@ use borrow.Author.Count.{below-more}
 use Rattle.model.specs.Graph.{byTable}
 use Rattle.graph.proofs.Ranks.{table-size}
 use Rattle.position.specs.Position.{apartAt}
-use Rattle.position.proofs.Positions.{apart-found, apart-none}
+use Rattle.position.proofs.Refusals.{apart-found, apart-none}
 use borrow.Author.Needs.{needs}
 use Rattle.position.proofs.is_apart.Statement.{statement}
 use Rattle.position.proofs.is_apart.Tie as tie
@@ -29,9 +29,7 @@ is-apart-at-requires c κs = search needs
 returns : tie.Need-returns Inv-loop μ-loop
 returns c =
     let b = c .before .before .before .before .before .before .before in
-    sym
-    (apart-found (byTable (b .args .n) (b .args .table .now)) (b .args .position .now) (omega (arith, b .pre .1, table-size (b .args .n) (b .args .table .now)))
-    (c .before .before .before .loop .s) (omega arith) (sym (c .before .is-apart-at .ensures) ∙ c .if1 .taken))
+    sym (apart-found _ _ (omega (arith, b .pre .1, table-size (b .args .n) (b .args .table .now))) (c .before .before .before .loop .s) (omega arith) (sym (c .before .is-apart-at .ensures) ∙ c .if1 .taken))
 
 add-s : tie.Need-add-s Inv-loop μ-loop
 add-s c = search needs
@@ -43,9 +41,7 @@ loop-again : tie.Need-loop-again Inv-loop μ-loop
 loop-again c = (omega arith, below-more _ _ (c .before .before .before .loop .inv .1) (sym (c .before .is-apart-at .ensures) ∙ c .if1 .left))
 
 returns-2 : tie.Need-returns-2 Inv-loop μ-loop
-returns-2 c =
-    let b = c .before .before .before .before .before in
-    sym (apart-none (byTable (b .args .n) (b .args .table .now)) (b .args .position .now) (λ k h. c .before .loop .inv .1 k (omega arith)))
+returns-2 c = sym (apart-none _ _ (λ k h. c .before .loop .inv .1 k (omega arith)))
 
 pub is-apart-spec : {M : Type 1} → statement M
 is-apart-spec =

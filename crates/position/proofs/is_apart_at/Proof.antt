@@ -1,4 +1,4 @@
--- `page::position::is_apart_at` meets its contract: no rank that was passed is a stranger.
+-- `position::is_apart_at` meets its contract: no rank that was passed is a stranger.
 -- Assumes nothing.
 use Prim.Native.Nat.{ℕ, _-_, _≤_, _<_}
 use mathlib.Core.Path.{_≡_, sym, _∙_}

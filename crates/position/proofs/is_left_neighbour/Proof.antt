@@ -1,4 +1,4 @@
--- `page::position::is_left_neighbour` meets its contract: by the test of the rank, and then of adjacency.
+-- `position::is_left_neighbour` meets its contract: by the test of the rank, and then of adjacency.
 -- Assumes nothing.
 use borrow.Author.Tests.{eq-eqb, ne-eqb}
 use borrow.Author.Needs.{needs}

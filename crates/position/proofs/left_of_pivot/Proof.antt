@@ -1,4 +1,4 @@
--- `page::position::left_of_pivot` meets its contract: after i ranks the sum is how many of them are left and adjacent to the pivot.
+-- `position::left_of_pivot` meets its contract: after i ranks the sum is how many of them are left and adjacent to the pivot.
 -- Assumes nothing.
 use Prim.Native.Nat.{ℕ, _+_, _-_, _≤_}
 use mathlib.Core.Path.{_≡_, sym, ap, _∙_}

@@ -1,4 +1,4 @@
--- `page::position::lowest` meets its contract: no rank that was passed is x.
+-- `position::lowest` meets its contract: no rank that was passed is x.
 -- Assumes nothing.
 use Prim.Native.Nat.{ℕ, _-_, _≤_, _<_}
 use mathlib.Core.Path.{_≡_, sym}
@@ -27,9 +27,8 @@ shared-slice-read-if1 c = search needs
 
 returns : tie.Need-returns Inv-loop μ-loop
 returns c =
-    let b = c .before .before .before .before in
     let l = c .before .before .before .loop in
-    sym (least-is (length (b .args .position .now)) (is (b .args .x) (b .args .position .now)) (l .i) (omega arith) (l .inv .1) (λ _. eq-eqb _ _ (c .if1 .taken)))
+    sym (least-is _ _ (l .i) (omega arith) (l .inv .1) (λ _. eq-eqb _ _ (c .if1 .taken)))
 
 add-i : tie.Need-add-i Inv-loop μ-loop
 add-i c = search needs
@@ -42,9 +41,8 @@ loop-again c = (omega arith, below-more _ _ (c .before .before .before .loop .in
 
 returns-2 : tie.Need-returns-2 Inv-loop μ-loop
 returns-2 c =
-    let b = c .before .before in
     let l = c .before .loop in
-    sym (least-is (length (b .args .position .now)) (is (b .args .x) (b .args .position .now)) (l .i) (l .inv .0) (l .inv .1) (λ h. absurd (omega arith)))
+    sym (least-is _ _ (l .i) (l .inv .0) (l .inv .1) (λ h. absurd (omega arith)))
 
 pub lowest-spec : {M : Type 1} → statement M
 lowest-spec =

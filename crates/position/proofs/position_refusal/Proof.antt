@@ -1,15 +1,13 @@
--- `page::position::position_refusal` meets its contract: each return goes by the tests that led there.
+-- `position::position_refusal` meets its contract: each return goes by the tests that led there.
 -- Assumes nothing.
-use mathlib.Core.Path.{refl, sym, ap, _∙_}
+use mathlib.Core.Path.{refl, sym, _∙_}
 use native.Mathlib.Omega.{arith}
 use lib.ListN.{length, length-take}
 use lib.Seq.{length-take-le}
-use Rattle.model.specs.Groups.{Factor}
-use Rattle.model.specs.Graph.{Graph, byTable}
-use Rattle.model.specs.Listing.{is, dead, rules}
-use Rattle.model.specs.Calls.{refuse, reopened}
-use Rattle.theory.proofs.walk.Scans.{least-le, reopened-dead, nothing-live}
-use Rattle.position.proofs.Positions.{position-by}
+use Rattle.model.specs.Listing.{is}
+use Rattle.model.specs.Calls.{refuse}
+use Rattle.theory.proofs.walk.Scans.{least-le, nothing-live}
+use Rattle.position.proofs.Refusals.{position-by, position-by-dead}
 use borrow.Author.Needs.{needs}
 use Rattle.position.proofs.position_refusal.Statement.{statement}
 use Rattle.position.proofs.position_refusal.Tie as tie
@@ -19,19 +17,14 @@ any-over-requires c κs = search needs
 
 returns : tie.Need-returns
 unfolding refuse
-returns c s f =
-    let a = c .before .before .before .before .before .args in
-    position-by (rules (byTable (a .n) (a .table .now)) s) (a .position .now) (sym (c .before .any-over .ensures) ∙ c .if1 .taken) refl refl
+returns c s f = position-by _ _ (sym (c .before .any-over .ensures) ∙ c .if1 .taken) refl refl
 
 has-gap-requires : tie.Need-has-gap-requires
 has-gap-requires c κs = search needs
 
 returns-2 : tie.Need-returns-2
 unfolding refuse
-returns-2 c s f =
-    let a = c .before .before .before .before .before .before .before .args in
-    position-by (rules (byTable (a .n) (a .table .now)) s) (a .position .now) (sym (c .before .before .before .any-over .ensures) ∙ c .before .before .if1 .left)
-    (sym (c .before .has-gap .ensures) ∙ c .if2 .taken) refl
+returns-2 c s f = position-by _ _ (sym (c .before .before .before .any-over .ensures) ∙ c .before .before .if1 .left) (sym (c .before .has-gap .ensures) ∙ c .if2 .taken) refl
 
 decided-count-requires : tie.Need-decided-count-requires
 decided-count-requires c κs = search needs
@@ -39,12 +32,7 @@ decided-count-requires c κs = search needs
 returns-3 : tie.Need-returns-3
 unfolding refuse
 returns-3 c s f =
-    let a = c .before .before .before .before .before .before .before .before .before .args in
-    let p = a .position .now in
-    let G : Graph = byTable (a .n) (a .table .now) in
-    let no-gap = sym (c .before .before .before .has-gap .ensures) ∙ c .before .before .if2 .left in
-    position-by (rules G s) p (sym (c .before .before .before .before .before .any-over .ensures) ∙ c .before .before .before .before .if1 .left) no-gap
-    (reopened-dead G (s .factor) p no-gap 0 (sym (c .if3 .taken) ∙ c .before .decided-count .ensures) ∙ nothing-live G (s .factor))
+    position-by-dead _ s _ refl (sym (c .before .before .before .before .before .any-over .ensures) ∙ c .before .before .before .before .if1 .left) (sym (c .before .before .before .has-gap .ensures) ∙ c .before .before .if2 .left) (sym (c .if3 .taken) ∙ c .before .decided-count .ensures) (nothing-live _ (s .factor))
 
 sub-e : tie.Need-sub-e
 sub-e c = search needs
@@ -63,32 +51,12 @@ is-dead-requires c κs =
 returns-4 : tie.Need-returns-4
 unfolding refuse
 returns-4 c s f =
-    let a = c .before .before .before .before .before .before .before .before .before .before .before .before .args in
-    let p = a .position .now in
-    let G : Graph = byTable (a .n) (a .table .now) in
-    let no-gap = sym (c .before .before .before .before .before .before .has-gap .ensures) ∙ c .before .before .before .before .before .if2 .left in
-    position-by (rules G s) p
-    (sym (c .before .before .before .before .before .before .before .before .any-over .ensures) ∙ c .before .before .before .before .before .before .before .if1 .left)
-    no-gap
-    (ap (λ (k : Factor). dead G k (reopened p)) f
-    ∙ reopened-dead G (a .c) p no-gap _ (c .before .before .before .before .decided-count .ensures)
-    ∙ sym (c .before .is-dead .ensures)
-    ∙ c .if4 .taken)
+    position-by-dead _ s _ f (sym (c .before .before .before .before .before .before .before .before .any-over .ensures) ∙ c .before .before .before .before .before .before .before .if1 .left) (sym (c .before .before .before .before .before .before .has-gap .ensures) ∙ c .before .before .before .before .before .if2 .left) (c .before .before .before .before .decided-count .ensures) (sym (c .before .is-dead .ensures) ∙ c .if4 .taken)
 
 returns-5 : tie.Need-returns-5
 unfolding refuse
 returns-5 c s f =
-    let a = c .before .before .before .before .before .before .before .before .before .before .before .before .args in
-    let p = a .position .now in
-    let G : Graph = byTable (a .n) (a .table .now) in
-    let no-gap = sym (c .before .before .before .before .before .before .has-gap .ensures) ∙ c .before .before .before .before .before .if2 .left in
-    position-by (rules G s) p
-    (sym (c .before .before .before .before .before .before .before .before .any-over .ensures) ∙ c .before .before .before .before .before .before .before .if1 .left)
-    no-gap
-    (ap (λ (k : Factor). dead G k (reopened p)) f
-    ∙ reopened-dead G (a .c) p no-gap _ (c .before .before .before .before .decided-count .ensures)
-    ∙ sym (c .before .is-dead .ensures)
-    ∙ c .if4 .left)
+    position-by-dead _ s _ f (sym (c .before .before .before .before .before .before .before .before .any-over .ensures) ∙ c .before .before .before .before .before .before .before .if1 .left) (sym (c .before .before .before .before .before .before .has-gap .ensures) ∙ c .before .before .before .before .before .if2 .left) (c .before .before .before .before .decided-count .ensures) (sym (c .before .is-dead .ensures) ∙ c .if4 .left)
 
 pub position-refusal-spec : {M : Type 1} → statement M
 position-refusal-spec =

@@ -131,10 +131,15 @@ passing-candidates G S =
     }
 
 -- f of each of a list, read at a place in it
-getD-each : (f : ℕ → ℕ) (us : List ℕ) (i : ℕ) → i < length us → getD (map f us) i 0 ≡ f (getD us i 0)
-getD-each f [] i h = absurd (not-suc-le-zero h)
-getD-each f (u ∷ us) zero h = refl
-getD-each f (u ∷ us) (suc i) h = getD-each f us i (omega arith)
+pub map-at : (f : ℕ → ℕ) (us : List ℕ) (i : ℕ) → i < length us → getD (map f us) i 0 ≡ f (getD us i 0)
+map-at f [] i h = absurd (not-suc-le-zero h)
+map-at f (u ∷ us) zero h = refl
+map-at f (u ∷ us) (suc i) h = map-at f us i (omega arith)
+
+-- a list of no entries is the empty one
+pub no-entries : (us : List ℕ) → length us ≡ 0 → us ≡ []
+no-entries [] e = refl
+no-entries (u ∷ us) e = absurd (omega arith)
 
 module _ (G : Graph) (p : Position) where
   abbrev ranks : List ℕ
@@ -146,7 +151,7 @@ module _ (G : Graph) (p : Position) where
 
   taken-at : (i : ℕ) → i < length ranks → getD (takenList G p) i 0 ≡ vertexAt G (getD ranks i 0)
   unfolding takenList
-  taken-at i h = getD-each (vertexAt G) ranks i h
+  taken-at i h = map-at (vertexAt G) ranks i h
 
   taken-rank : (i : ℕ) → i < length ranks → (getD ranks i 0 < G .size) × (is 1 p (getD ranks i 0) ≡ true)
   taken-rank i h = passing-listed (is 1 p) (G .size) (getD ranks i 0) (i, h, refl)

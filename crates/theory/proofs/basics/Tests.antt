@@ -1,7 +1,7 @@
 -- What the tests of `specs.Below` say: `Test b P` is that the test b passes exactly where P holds.
 -- Assumes nothing.
-use Prim.Native.Nat.{_-_, ℕ, zero, suc, _+_, _≤_, _<_, zero-le}
-use mathlib.Core.Path.{_≡_, refl, sym, ap, ap₂, _∙_}
+use Prim.Native.Nat.{ℕ, zero, suc, _+_, _-_, _≤_, _<_, zero-le}
+use mathlib.Core.Path.{_≡_, refl, sym, ap, ap₂, _∙_, subst}
 use mathlib.Core.List.{List, [], _∷_}
 use mathlib.Core.Logic.{_↔_, _≢_, _⊎_, inl, inr, ⊎-elim}
 use mathlib.Core.Bool.{Bool, true, false, _&&_, _||_, not, false≢true, true≢false}
@@ -97,6 +97,10 @@ test-eq a b = (eqb-true a b, eq-eqb a b)
 -- a number below suc n is n or below n
 pub last-or-below : {ℓ : Type 0} {n i : ℕ} → i < suc n → (i ≡ n → ℓ) → (i < n → ℓ) → ℓ
 last-or-below h f g = ⊎-elim f g (eq-or-lt-of-le (le-of-suc-le-suc h))
+
+-- what holds of j and of each number after it and below k holds of each from j on: the step of a loop that counts down
+pub from-more : (P : ℕ → Type 0) (j k : ℕ) → P j → ((i : ℕ) → j < i → i < k → P i) → (i : ℕ) → j ≤ i → i < k → P i
+from-more P j k a f i h l = ⊎-elim (λ e. subst P e a) (λ g. f i g l) (eq-or-lt-of-le h)
 
 any-there : (n : ℕ) (p : ℕ → Bool) → any n p ≡ true → (i : ℕ) × (i < n) × (p i ≡ true)
 unfolding any

@@ -67,6 +67,11 @@ gap-test (suc x ∷ p) =
 taken-below : (p : Position) (r : ℕ) → getD p r 0 ≡ 1 → r < length p
 taken-below p r e = in-length p r (λ z. omega arith)
 
+-- no rank below the pivot is taken
+pub below-pivot : (G : Graph) (p : Position) (r : ℕ) → r < pivot G p → getD p r 0 ≢ 1
+unfolding pivot
+below-pivot G p r l e = true≢false (sym (eq-eqb (getD p r 0) 1 e) ∙ least-first (G .size) (is 1 p) r l)
+
 module _ (G : Graph) (mirrored : (u v : ℕ) → G .joined u v ≡ true → G .joined v u ≡ true) (c : Factor) (p : Position) (long : length p ≡ G .size) where
   pivot-least : (r : ℕ) → getD p r 0 ≡ 1 → ((i : ℕ) → i < r → getD p i 0 ≢ 1) → pivot G p ≡ r
   unfolding pivot
@@ -110,10 +115,6 @@ module _ (G : Graph) (mirrored : (u v : ℕ) → G .joined u v ≡ true → G .j
           (⊎-elim (λ e. absurd (a .different e)) (λ l. pair (a .other) (a .one) (a .other-taken) (a .one-taken) l (turned (a .one) (a .other) (a .not-adjacent))))
           (trichotomy (a .one) (a .other))
 
-  below-pivot : (r : ℕ) → r < pivot G p → getD p r 0 ≢ 1
-  unfolding pivot
-  below-pivot r l e = true≢false (sym (eq-eqb (getD p r 0) 1 e) ∙ least-first (G .size) (is 1 p) r l)
-
   -- the test of a dead position says what document 01 says
   pub dead-iff : Test (dead G c p) (Dead G c p)
   dead-iff = test-map (dead-test G p c) there back
@@ -125,7 +126,7 @@ module _ (G : Graph) (mirrored : (u v : ℕ) → G .joined u v ≡ true → G .j
           (record {
             pivot = pivot G p;
             taken = eqb-true _ 1 (pivot-taken G p long (d .0) .1);
-            lowest = below-pivot;
+            lowest = below-pivot G p;
             at-least = λ u. d .1 u;
           })
 

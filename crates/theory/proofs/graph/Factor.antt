@@ -1,10 +1,12 @@
 -- The laws of the factor's bound. What is proved of isolation goes by these alone, and not by what `within` and `Under` say.
 -- Assumes nothing.
 use Prim.Native.Nat.{ℕ, _*_, _≤_, _<_}
-use mathlib.Core.Path.{_≡_}
-use mathlib.Core.Bool.{Bool, true, cond}
+use mathlib.Core.Path.{_≡_, refl}
+use mathlib.Core.Bool.{Bool, true, false, not, cond}
 use native.Mathlib.Nat.{lt-of-le-of-lt, lt-of-lt-of-le, mul-le-mul-left}
 use native.Mathlib.Omega.{arith}
+use lib.Dec.{leb}
+use borrow.Author.Tests.{leb-true, leb-false, lt-ltb, le-ltb}
 use Rattle.model.specs.Below.{count, total}
 use Rattle.model.specs.Groups.{Factor, within}
 use Rattle.model.specs.Meaning.{Under}
@@ -14,6 +16,14 @@ use Rattle.theory.proofs.basics.Counting.{total-least}
 -- the test computes the bound
 pub under-test : (c : Factor) (k x : ℕ) → Test (within c k x) (Under c k x)
 under-test c k x = test-lt x (c * k)
+
+-- at least c is the failing of the test for one member
+pub at-least : (c : Factor) (x : ℕ) → leb c x ≡ not (within c 1 x)
+at-least c x = go (leb c x) refl
+  where
+    go : (b : Bool) → leb c x ≡ b → b ≡ not (within c 1 x)
+    go true e = let h = leb-true c x e in rw (le-ltb x (c * 1) (omega arith))
+    go false e = let h = leb-false c x e in rw (lt-ltb x (c * 1) (omega arith))
 
 -- what is no larger is under it too
 pub under-mono : (c : Factor) (k : ℕ) {x y : ℕ} → x ≤ y → Under c k y → Under c k x

@@ -1,12 +1,11 @@
--- `page::walk::back` meets its contract: the state stands for the position with the highest taken rank opened, and then for that rank left.
+-- `walk::back` meets its contract: the state stands for the position with the highest taken rank opened, and then for that rank left.
 -- Assumes nothing.
-use mathlib.Core.Path.{refl, _∙_}
+use mathlib.Core.Path.{_∙_}
 use native.Mathlib.Omega.{arith}
 use lib.ListN.{length-set}
-use Rattle.model.specs.Walk.{retreat}
 use Rattle.graph.proofs.Ranks.{table-size}
 use Rattle.walk.proofs.Opened.{opened}
-use Rattle.walk.proofs.Leaving.{highest, left-decides, left-exit, left-vertex, left-sum, left-rest, left-last}
+use Rattle.walk.proofs.HighestTaken.{highest, highest-decided, retreat-decides, retreat-exit, last-vertex, last-sum, last-opened}
 use borrow.Author.Needs.{needs}
 use Rattle.walk.proofs.back.Statement.{statement}
 use Rattle.walk.proofs.back.Tie as tie
@@ -14,203 +13,77 @@ use Rattle.walk.proofs.back.Tie as tie
 sub-k : tie.Need-sub-k
 sub-k c = search needs
 
-mul-wide : tie.Need-mul-wide
-mul-wide c = search needs
+entry-at-requires : tie.Need-entry-at-requires
+entry-at-requires c κs = search needs
 
-slice-read-wide : tie.Need-slice-read-wide
-slice-read-wide c = search needs
+add-entry-at : tie.Need-add-entry-at
+add-entry-at c = search needs
 
-wide-requires : tie.Need-wide-requires
-wide-requires c κs = search needs
-
-add-next : tie.Need-add-next
-add-next c =
-    let b = c .before .before .before .before .before .before .before in
-    let n = b .args .n in
-    let t = b .args .table .now in
-    let ranks = b .args .ranks .now in
-    let p = b .args .position .now in
-    let w = b .args .work .now in
-    let s = b .args .s in
-    let St = b .pre .1 in
-    let r = c .wide in
-    let h = highest n t ranks (b .pre .0) p w s St (b .pre .2) (r .result) (r .ensures) in
-    let low = h .0 in
-    omega (arith, b .pre .0 .fits .small)
-
-slice-write-position : tie.Need-slice-write-position
-slice-write-position c =
-    let b = c .before .before .before .before .before .before .before in
-    let n = b .args .n in
-    let t = b .args .table .now in
-    let ranks = b .args .ranks .now in
-    let p = b .args .position .now in
-    let w = b .args .work .now in
-    let s = b .args .s in
-    let St = b .pre .1 in
-    let r = c .wide in
-    let h = highest n t ranks (b .pre .0) p w s St (b .pre .2) (r .result) (r .ensures) in
-    omega (arith, h .3, St .bound, St .long)
-
-open-ranks-requires : tie.Need-open-ranks-requires
-open-ranks-requires c κs =
+entry-at-requires-2 : tie.Need-entry-at-requires-2
+entry-at-requires-2 c κs =
     let b = c .before .before .before .before .before .before .before .before in
-    let n = b .args .n in
-    let t = b .args .table .now in
-    let ranks = b .args .ranks .now in
-    let p = b .args .position .now in
-    let w = b .args .work .now in
-    let s = b .args .s in
-    let St = b .pre .1 in
-    let r = c .before .wide in
-    let h = highest n t ranks (b .pre .0) p w s St (b .pre .2) (r .result) (r .ensures) in
-    (omega (arith, h .3), simp length-set (omega (arith, St .bound, St .long)))
-
-same-length : tie.Need-same-length
-same-length c = c .before .before .before .open-ranks .ensures .same-length ∙ length-set (c .before .before .before .before .before .before .before .before .before .before .before .before .args .position .now) (c .before .before .before .before .before .wide .result) 2
-
-returns : tie.Need-returns
-returns c =
-    let b = c .before .before .before .before .before .before .before .before .before .before .before .before in
-    let n = b .args .n in
-    let t = b .args .table .now in
-    let ranks = b .args .ranks .now in
-    let p = b .args .position .now in
-    let w = b .args .work .now in
-    let s = b .args .s in
-    let St = b .pre .1 in
-    let r = c .before .before .before .before .before .wide in
-    let o = c .before .before .before .open-ranks in
-    record {
-      position = left-exit n t ranks (b .pre .0) p w s St (b .pre .2) (r .result) (r .ensures) (o .last .0) (o .ensures);
-      stands = left-last n t ranks (b .pre .0) p w s St (b .pre .2) (r .result) (r .ensures) (b .pre .3) (c .if1 .taken);
-    }
-
-add-wide : tie.Need-add-wide
-add-wide c = search needs
-
-mul-wide-2 : tie.Need-mul-wide-2
-mul-wide-2 c = search needs
-
-slice-read-wide-2 : tie.Need-slice-read-wide-2
-slice-read-wide-2 c =
-    let b = c .before .before .before .before .before .before .before .before .before .before .before .before .before in
     omega (arith, b .pre .1 .room, b .pre .1 .taken-bound, b .pre .1 .bound, b .pre .2, table-size (b .args .n) (b .args .table .now))
 
-wide-requires-2 : tie.Need-wide-requires-2
-wide-requires-2 c κs = search needs
+add-entry-at-2 : tie.Need-add-entry-at-2
+add-entry-at-2 c =
+    let q = c .before .before .before .before .before .before .before .before .before .pre in
+    omega (arith, last-vertex (q .0) (q .1) (q .2) (c .before .before .entry-at .ensures) (c .entry-at2 .ensures), q .0 .fits .small)
 
-add-wide-2 : tie.Need-add-wide-2
-add-wide-2 c =
-    let b = c .before .before .before .before .before .before .before .before .before .before .before .before .before .before in
-    let n = b .args .n in
-    let t = b .args .table .now in
-    let ranks = b .args .ranks .now in
-    let p = b .args .position .now in
-    let w = b .args .work .now in
-    let s = b .args .s in
-    let St = b .pre .1 in
-    let r = c .before .before .before .before .before .before .before .wide in
-    let u = c .wide2 in
-    let l = left-vertex n t ranks (b .pre .0) p w s St (b .pre .2) (r .result) (r .ensures) (u .result) _ (u .ensures) refl in
-    omega (arith, b .pre .0 .fits .small)
-
-mul-wide-3 : tie.Need-mul-wide-3
-mul-wide-3 c =
-    let b = c .before .before .before .before .before .before .before .before .before .before .before .before .before .before in
-    let n = b .args .n in
-    let t = b .args .table .now in
-    let ranks = b .args .ranks .now in
-    let p = b .args .position .now in
-    let w = b .args .work .now in
-    let s = b .args .s in
-    let St = b .pre .1 in
-    let r = c .before .before .before .before .before .before .before .wide in
-    let u = c .wide2 in
-    let l = left-vertex n t ranks (b .pre .0) p w s St (b .pre .2) (r .result) (r .ensures) (u .result) _ (u .ensures) refl in
-    omega (arith, b .pre .0 .fits .small)
-
-shared-slice-read-wide : tie.Need-shared-slice-read-wide
-shared-slice-read-wide c =
-    let b = c .before .before .before .before .before .before .before .before .before .before .before .before .before .before .before in
-    let n = b .args .n in
-    let t = b .args .table .now in
-    let ranks = b .args .ranks .now in
-    let p = b .args .position .now in
-    let w = b .args .work .now in
-    let s = b .args .s in
-    let St = b .pre .1 in
-    let r = c .before .before .before .before .before .before .before .before .wide in
-    let u = c .before .wide2 in
-    let l = left-vertex n t ranks (b .pre .0) p w s St (b .pre .2) (r .result) (r .ensures) (u .result) _ (u .ensures) refl in
-    omega (arith, b .pre .0 .room)
-
-wide-requires-3 : tie.Need-wide-requires-3
-wide-requires-3 c κs = search needs
+entry-at-requires-3 : tie.Need-entry-at-requires-3
+entry-at-requires-3 c κs =
+    let q = c .before .before .before .before .before .before .before .before .before .pre in
+    omega (arith, last-vertex (q .0) (q .1) (q .2) (c .before .before .entry-at .ensures) (c .entry-at2 .ensures), q .0 .room)
 
 trim-requires : tie.Need-trim-requires
 trim-requires c κs =
-    let b = c .before .before .before .before .before .before .before .before .before .before .before .before .before .before .before .before .before in
+    let b = c .before .before .before .before .before .before .before .before .before .before .before in
     omega (arith, b .pre .1 .room, b .pre .1 .left-bound, b .pre .1 .bound, table-size (b .args .n) (b .args .table .now))
 
-sub-t23 : tie.Need-sub-t23
-sub-t23 c =
-    let b = c .before .before .before .before .before .before .before .before .before .before .before .before .before .before .before .before .before .before .before in
-    let n = b .args .n in
-    let t = b .args .table .now in
-    let ranks = b .args .ranks .now in
-    let p = b .args .position .now in
-    let w = b .args .work .now in
-    let s = b .args .s in
-    let St = b .pre .1 in
-    let r = c .before .before .before .before .before .before .before .before .before .before .before .before .wide in
-    let u = c .before .before .before .before .before .wide2 in
-    let e = c .before .before .before .wide3 in
-    let l = left-sum n t ranks (b .pre .0) p w s St (b .pre .2) (r .result) (r .ensures) (u .result) (e .result) (u .ensures) (e .ensures) in
-    omega arith
+sub-t20 : tie.Need-sub-t20
+sub-t20 c =
+    let q = c .before .before .before .before .before .before .before .before .before .before .before .before .before .pre in
+    omega (arith, last-sum (q .0) (q .1) (q .2) (c .before .before .before .before .before .before .entry-at .ensures) (c .before .before .before .before .entry-at2 .ensures) (c .before .before .before .entry-at3 .ensures))
+
+slice-write-position : tie.Need-slice-write-position
+slice-write-position c =
+    let b = c .before .before .before .before .before .before .before .before .before .before .before .before .before in
+    omega (arith, highest-decided (b .pre .1) (b .pre .2) (c .before .before .before .before .before .before .entry-at .ensures), b .pre .1 .bound, b .pre .1 .long)
+
+add-open-ranks : tie.Need-add-open-ranks
+add-open-ranks c =
+    let q = c .before .before .before .before .before .before .before .before .before .before .before .before .before .before .pre in
+    omega (arith, highest-decided (q .1) (q .2) (c .before .before .before .before .before .before .before .entry-at .ensures), q .1 .bound, q .1 .long)
+
+open-ranks-requires : tie.Need-open-ranks-requires
+open-ranks-requires c κs =
+    let q = c .before .before .before .before .before .before .before .before .before .before .before .before .before .before .pre in
+    (omega (arith, highest-decided (q .1) (q .2) (c .before .before .before .before .before .before .before .entry-at .ensures)), simp length-set (omega (arith, q .1 .bound, q .1 .long)))
 
 push-left-requires : tie.Need-push-left-requires
 push-left-requires c κs =
-    let b = c .before .before .before .before .before .before .before .before .before .before .before .before .before .before .before .before .before .before .before .before in
-    let n = b .args .n in
-    let t = b .args .table .now in
-    let ranks = b .args .ranks .now in
-    let p = b .args .position .now in
-    let w = b .args .work .now in
-    let s = b .args .s in
-    let St = b .pre .1 in
-    let r = c .before .before .before .before .before .before .before .before .before .before .before .before .before .wide in
-    let u = c .before .before .before .before .before .before .wide2 in
-    let e = c .before .before .before .before .wide3 in
-    let m = c .before .before .trim in
-    let rest = left-rest n t ranks (b .pre .0) p w s St (b .pre .2) (r .result) (r .ensures) (u .result) (e .result) (u .ensures) (e .ensures) (b .pre .3) (c .before .before .before .before .before .before .before .before .if1 .left) (m .result) (m .ensures) in
-    (b .pre .0, (opened (r .result) p, rest), highest n t ranks (b .pre .0) p w s St (b .pre .2) (r .result) (r .ensures) .0)
+    let b = c .before .before .before .before .before .before .before .before .before .before .before .before .before .before .before .before .before .before in
+    let q = b .pre in
+    let r = c .before .before .before .before .before .before .before .before .before .before .before .entry-at in
+    let rest = last-opened (q .0) (q .1) (q .2) (r .ensures) (c .before .before .before .before .before .before .before .before .before .entry-at2 .ensures) (c .before .before .before .before .before .before .before .before .entry-at3 .ensures) (q .3) (c .before .before .before .before .before .before .trim .ensures) in
+    (q .0, (opened (r .result) (b .args .position .now), rest), omega (arith, highest-decided (q .1) (q .2) (r .ensures), q .1 .bound, table-size (b .args .n) (b .args .table .now)))
+
+same-length : tie.Need-same-length
+same-length c =
+    c .before .before .before .before .before .before .open-ranks .ensures .same-length ∙ length-set (c .before .before .before .before .before .before .before .before .before .before .before .before .before .before .before .before .before .before .before .before .before .args .position .now) _ _
 
 same-length-2 : tie.Need-same-length-2
-same-length-2 c = c .before .before .before .before .before .before .before .before .before .before .before .before .before .before .open-ranks .ensures .same-length ∙ length-set (c .before .before .before .before .before .before .before .before .before .before .before .before .before .before .before .before .before .before .before .before .before .before .before .args .position .now) (c .before .before .before .before .before .before .before .before .before .before .before .before .before .before .before .before .wide .result) 2
+same-length-2 c = search needs
 
-same-length-3 : tie.Need-same-length-3
-same-length-3 c = search needs
-
-returns-2 : tie.Need-returns-2
-returns-2 c =
-    let b = c .before .before .before .before .before .before .before .before .before .before .before .before .before .before .before .before .before .before .before .before .before .before .before in
-    let n = b .args .n in
-    let t = b .args .table .now in
-    let ranks = b .args .ranks .now in
-    let p = b .args .position .now in
-    let w = b .args .work .now in
-    let s = b .args .s in
-    let St = b .pre .1 in
-    let r = c .before .before .before .before .before .before .before .before .before .before .before .before .before .before .before .before .wide in
-    let u = c .before .before .before .before .before .before .before .before .before .wide2 in
-    let e = c .before .before .before .before .before .before .before .wide3 in
-    let m = c .before .before .before .before .before .trim in
-    let o = c .before .before .before .before .before .before .before .before .before .before .before .before .before .before .open-ranks in
-    let rest = left-rest n t ranks (b .pre .0) p w s St (b .pre .2) (r .result) (r .ensures) (u .result) (e .result) (u .ensures) (e .ensures) (b .pre .3) (c .before .before .before .before .before .before .before .before .before .before .before .if1 .left) (m .result) (m .ensures) in
+returns : tie.Need-returns
+returns c =
+    let b = c .before .before .before .before .before .before .before .before .before .before .before .before .before .before .before .before .before .before .before .before .before in
+    let q = b .pre in
+    let r = c .before .before .before .before .before .before .before .before .before .before .before .before .before .before .entry-at in
+    let H = highest (q .1) (q .2) (r .ensures) in
+    let rest = last-opened (q .0) (q .1) (q .2) (r .ensures) (c .before .before .before .before .before .before .before .before .before .before .before .before .entry-at2 .ensures) (c .before .before .before .before .before .before .before .before .before .before .before .entry-at3 .ensures) (q .3) (c .before .before .before .before .before .before .before .before .before .trim .ensures) in
     record {
-      position = left-exit n t ranks (b .pre .0) p w s St (b .pre .2) (r .result) (r .ensures) (o .last .0) (o .ensures);
-      stands = c .before .before .push-left .ensures .stands (opened (r .result) p) (retreat p) rest (left-decides n t ranks (b .pre .0) p w s St (b .pre .2) (r .result) (r .ensures));
+      position = retreat-exit H (q .1 .still-open) (c .before .before .before .before .before .before .open-ranks .ensures);
+      stands = c .before .before .push-left .ensures .stands _ _ rest (retreat-decides H);
     }
 
 pub back-spec : {M : Type 1} → statement M
@@ -218,25 +91,17 @@ back-spec =
     tie.close
     (tie.spec
     sub-k
-    mul-wide
-    slice-read-wide
-    wide-requires
-    add-next
-    slice-write-position
-    open-ranks-requires
-    same-length
-    returns
-    add-wide
-    mul-wide-2
-    slice-read-wide-2
-    wide-requires-2
-    add-wide-2
-    mul-wide-3
-    shared-slice-read-wide
-    wide-requires-3
+    entry-at-requires
+    add-entry-at
+    entry-at-requires-2
+    add-entry-at-2
+    entry-at-requires-3
     trim-requires
-    sub-t23
+    sub-t20
+    slice-write-position
+    add-open-ranks
+    open-ranks-requires
     push-left-requires
+    same-length
     same-length-2
-    same-length-3
-    returns-2)
+    returns)

@@ -1,4 +1,4 @@
--- `page::walk::open_ranks` meets its contract: the ranks that were passed are open, and the others are as they were.
+-- `walk::open_ranks` meets its contract: the ranks that were passed are open, and the others are as they were.
 -- Assumes nothing.
 use Prim.Native.Nat.{ℕ, _-_, _≤_}
 use mathlib.Core.Path.{_≡_, subst}
@@ -30,7 +30,7 @@ loop-less c = search needs
 loop-again : tie.Need-loop-again Inv-loop μ-loop
 loop-again c =
     let l = c .before .loop in
-    (omega arith, omega arith, cleared-more _ _ _ _ (l .inv .2) (l .inv .0) (omega (arith, l .inv .2 .same-length)))
+    (omega arith, omega arith, cleared-more (l .inv .2) (l .inv .0) (omega (arith, l .inv .2 .same-length)))
 
 same-length : tie.Need-same-length Inv-loop μ-loop
 same-length c = c .before .loop .inv .2 .same-length

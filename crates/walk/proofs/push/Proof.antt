@@ -1,4 +1,4 @@
--- `page::walk::push` meets its contract: a mark that is 1 or 2, and not 1, is 2.
+-- `walk::push` meets its contract: a mark that is 1 or 2, and not 1, is 2.
 -- Assumes nothing.
 use Prim.Native.Nat.{ℕ}
 use mathlib.Core.Path.{_≡_, subst⁻¹}

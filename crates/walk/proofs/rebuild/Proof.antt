@@ -1,4 +1,4 @@
--- `page::walk::rebuild` meets its contract: the state stands for the position with the ranks from `decided` on opened.
+-- `walk::rebuild` meets its contract: the state stands for the position with the ranks from `decided` on opened.
 -- Assumes nothing.
 use Prim.Native.Nat.{ℕ, _+_, _-_, _<_}
 use mathlib.Core.Path.{_≡_, refl, _∙_, subst, subst⁻¹}

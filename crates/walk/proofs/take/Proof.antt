@@ -1,4 +1,4 @@
--- `page::walk::take` meets its contract: the lowest open rank is the one that `decided` names.
+-- `walk::take` meets its contract: the lowest open rank is the one that `decided` names.
 -- Assumes nothing.
 use Prim.Native.Nat.{_<_}
 use mathlib.Core.Path.{sym, subst⁻¹}

@@ -1,0 +1,75 @@
+-- One step: which of the two moves it is by the state, and that its position passes refusals 21 to 23 again.
+-- Assumes nothing.
+use Prim.Native.Nat.{ℕ, _≤_, _<_}
+use mathlib.Core.Path.{_≡_, refl, sym, ap, ap₂, _∙_, subst⁻¹}
+use mathlib.Core.Bool.{Bool, true, false, _&&_, _||_, not, and-false, true≢false}
+use mathlib.Core.List.{List}
+use mathlib.Core.Logic.{⊎-elim}
+use native.Mathlib.Omega.{arith}
+use borrow.Author.Tests.{eq-eqb}
+use Rattle.model.specs.Graph.{Graph, byTable}
+use Rattle.model.specs.Groups.{Factor}
+use Rattle.model.specs.Walk.{Position, has, finished, advance, retreat, step}
+use Rattle.model.specs.Listing.{apart, dead}
+use Rattle.model.specs.Calls.{reopened, refusePosition}
+use Rattle.theory.proofs.basics.Tests.{lt-or-ge}
+use Rattle.theory.proofs.walk.Walk.{step-down, step-up}
+use Rattle.theory.proofs.calls.PageAccepted.{refuse-pass}
+use Rattle.theory.proofs.calls.Pages.{table-lawful}
+use Rattle.theory.proofs.walk.Moves.{step-accepted}
+use Rattle.graph.proofs.Ranks.{table-size}
+use Rattle.walk.specs.State.{Stands}
+use Rattle.walk.specs.Walk.{rulesAt, Passes, Walking, Moved, Stepped}
+use Rattle.walk.specs.declared.State.{State}
+use Rattle.walk.proofs.StandsFor.{some-open, no-open, finished-decided, untaken-live}
+
+-- something is taken where nothing taken is absurd
+some-taken : (k : ℕ) → (k ≡ 0 → ⊥) → 0 < k
+some-taken k f = ⊎-elim (λ l. l) (λ l. absurd (f (omega arith))) (lt-or-ge 0 k)
+
+module _ {n : ℕ} {c : Factor} {t ranks : List ℕ} {p : Position} {w : List ℕ} {s : State} (W : Walking n c t ranks p w s) where
+  abbrev G : Graph
+  G = byTable n t
+
+  -- the taken ranks but the last decided one are pairwise adjacent
+  pub passes-calm : apart G (reopened p) ≡ false
+  unfolding refusePosition dead
+  passes-calm = first (apart G (reopened p)) _ (refuse-pass 22 _ _ (refuse-pass 21 _ _ (refuse-pass 20 _ _ (W .passes) .1) .1) .0)
+    where
+      first : (a b : Bool) → (a || b) ≡ false → a ≡ false
+      first true b e = e
+      first false b e = refl
+
+  -- something is taken where the position is dead, or decided and not finished
+  pub dead-taken : dead G c p ≡ true → 0 < s .taken
+  dead-taken e = some-taken (s .taken) (λ z. true≢false (sym e ∙ untaken-live (W .stands) c z))
+
+  pub decided-taken : finished p ≡ false → n ≤ s .decided → 0 < s .taken
+  decided-taken e h =
+      some-taken (s .taken)
+      (λ z. true≢false (sym (eq-eqb (s .taken) 0 z) ∙ sym (finished-decided (W .stands) (omega (arith, table-size n t))) ∙ e))
+
+  to-step : {q x : Position} {w₂ : List ℕ} {s₂ : State} → step (rulesAt G c) p ≡ q → Moved G q x w₂ s₂ → Stepped G c p x w₂ s₂
+  to-step {q} {x} {w₂} {s₂} e M =
+      record {
+        position = M .position ∙ sym e;
+        stands = subst⁻¹ (λ (y : Position). Stands G y w₂ s₂) e (M .stands);
+        passes =
+            step-accepted (rulesAt G c) n (table-lawful n t (record { notion = 0; kind = 0; factor = c }) (W .accepted)) p
+            (W .stands .long ∙ table-size n t) (W .passes);
+      }
+
+  -- a live position with an open rank
+  pub stepped-down : {x : Position} {w₂ : List ℕ} {s₂ : State} → dead G c p ≡ false → s .decided < n → Moved G (advance p) x w₂ s₂ → Stepped G c p x w₂ s₂
+  stepped-down live h =
+      to-step (step-down (rulesAt G c) p (ap₂ (λ (a b : Bool). not a && b) live (some-open (W .stands) (omega (arith, table-size n t)))))
+
+  -- a dead position, or one with all ranks decided
+  pub stepped-dead : {x : Position} {w₂ : List ℕ} {s₂ : State} → dead G c p ≡ true → Moved G (retreat p) x w₂ s₂ → Stepped G c p x w₂ s₂
+  stepped-dead e = to-step (step-up (rulesAt G c) p (ap (λ (a : Bool). not a && has 0 p) e))
+
+  pub stepped-decided : {x : Position} {w₂ : List ℕ} {s₂ : State} → n ≤ s .decided → Moved G (retreat p) x w₂ s₂ → Stepped G c p x w₂ s₂
+  stepped-decided h =
+      to-step
+      (step-up (rulesAt G c) p
+      (ap (λ (b : Bool). not (dead G c p) && b) (no-open (W .stands) (omega (arith, table-size n t))) ∙ and-false (not (dead G c p))))

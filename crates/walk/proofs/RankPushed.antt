@@ -1,0 +1,223 @@
+-- The next rank decided: how the state and the work slice come to stand for the position that has it taken or left, by the stores that are made.
+-- Assumes nothing.
+use Prim.Native.Nat.{ℕ, _+_, _*_, _≤_, _<_}
+use mathlib.Core.Path.{_≡_, refl, sym, ap, ap₂, _∙_}
+use mathlib.Core.Bool.{Bool, true, false, _||_, not}
+use mathlib.Core.List.{List, [], _∷_, _++_}
+use mathlib.Core.Logic.{_≢_, ⊎-elim}
+use native.Mathlib.Nat.{zero-add}
+use native.Mathlib.Omega.{arith}
+use lib.ListN.{length, getD, set, length-set}
+use Rattle.model.specs.Below.{any, passing}
+use Rattle.model.specs.Graph.{Graph, onVertices, byTable, degree, vertexAt}
+use Rattle.model.specs.Walk.{Position}
+use Rattle.model.specs.Listing.{adjacent, pivot, apart, takenList}
+use Rattle.theory.proofs.basics.Tests.{any-same, last-or-below, lt-or-ge, trichotomy}
+use Rattle.theory.proofs.basics.Parts.{part-push, part-before, part-after, part-below, kept-none}
+use Rattle.theory.specs.Parts.{part, Kept, Listed}
+use Rattle.graph.proofs.Ranks.{table-size, entry-below}
+use Rattle.graph.specs.Ranks.{HoldsRanks}
+use Rattle.walk.specs.State.{takenRanks, leftRanks, degreesOf, Stands, StandsForOne}
+use Rattle.walk.specs.Walk.{Decides, Pushed, LeftOnceTaken}
+use Rattle.walk.specs.declared.State.{State}
+use Rattle.walk.proofs.Taken.{degrees-more, untaken-at}
+use Rattle.walk.proofs.NextRank.{ranks-taken, vertices-taken, ranks-left, vertices-left, left-kept, left-more, left-same, left-still-none, left-first, apart-taken, apart-left}
+use Rattle.walk.proofs.StandsFor.{taken-count, vertex-entry, pivot-entry, none-taken, some-taken, enough}
+
+module _ {G : Graph} {p q : Position} {w : List ℕ} {s : State} (St : Stands G p w s) (low : s .decided < G .size) {x : ℕ} (D : Decides (s .decided) x p q) where
+  -- what any push keeps
+  any-push : {w₂ : List ℕ} → length w₂ ≡ length w → (s₂ : State) → x ≢ 0 → x ≤ 2 → s₂ .decided ≡ s .decided + 1 → s₂ .taken ≤ s₂ .decided → s₂ .left ≤ s₂ .decided
+      → part w₂ 0 (s₂ .taken) ≡ takenRanks G q → part w₂ (G .size) (s₂ .taken) ≡ takenList G q → part w₂ (2 * G .size) (s₂ .left) ≡ leftRanks G q
+      → s₂ .sum ≡ degreesOf G (takenList G q) → s₂ .apart ≡ apart G q → Stands G q w₂ s₂
+  any-push long s₂ o t e a b ranks vertices left sum apart =
+      record {
+        long = D .same-length ∙ St .long;
+        room = omega arith;
+        bound = omega arith;
+        taken-bound = a;
+        left-bound = b;
+        bytes = bytes;
+        decided = λ r h. last-or-below {n = s .decided} {i = r} (omega arith) (λ q. decided-there r q) (λ l z. St .decided r l (sym (D .before r l) ∙ z));
+        still-open = λ r h. D .then-open r (omega arith);
+        ranks = ranks;
+        vertices = vertices;
+        left = left;
+        sum = sum;
+        apart = apart;
+      }
+    where
+      decided-there : (r : ℕ) → r ≡ s .decided → getD q r 0 ≢ 0
+      decided-there r e z = o (sym (D .there) ∙ ap (λ (k : ℕ). getD q k 0) (sym e) ∙ z)
+
+      bytes : (r : ℕ) → getD q r 0 ≤ 2
+      bytes r =
+          ⊎-elim
+          (λ l. let e = D .before r l in let b = St .bytes r in omega arith)
+          (⊎-elim
+          (λ e. let f = ap (λ (k : ℕ). getD q k 0) e in let g = D .there in omega arith)
+          (λ l. let e = D .then-open r l in omega arith))
+          (trichotomy r (s .decided))
+
+  -- the rank is taken: it comes last in part 0, its vertex last in part 1, and part 2 holds the left neighbours of the pivot
+  push-taken : x ≡ 1 → {w₂ : List ℕ} → length w₂ ≡ length w → (m z : ℕ) → m ≤ s .decided → z ≡ degree G (vertexAt G (s .decided)) → (b : Bool)
+      → b ≡ (s .apart || any (s .taken) (λ j. not (G .joined (getD w (G .size + j) 0) (vertexAt G (s .decided)))))
+      → part w₂ 0 (s .taken + 1) ≡ part w 0 (s .taken) ++ (s .decided ∷ []) → part w₂ (G .size) (s .taken + 1) ≡ part w (G .size) (s .taken) ++ (vertexAt G (s .decided) ∷ [])
+      → part w₂ (2 * G .size) m ≡ leftRanks G q
+      → Stands G q w₂ (record { decided = s .decided + 1; taken = s .taken + 1; left = m; sum = s .sum + z; apart = b })
+  push-taken e long m z few z-is b is ranks vertices left =
+      let list = vertices-taken G low (St .still-open) D e in
+      any-push long (record { decided = s .decided + 1; taken = s .taken + 1; left = m; sum = s .sum + z; apart = b })
+      (λ z. omega arith) (omega arith) refl (omega arith) (omega arith)
+      (ranks ∙ ap (λ (l : List ℕ). l ++ (s .decided ∷ [])) (St .ranks) ∙ sym (ranks-taken G low (St .still-open) D e))
+      (vertices ∙ ap (λ (l : List ℕ). l ++ (vertexAt G (s .decided) ∷ [])) (St .vertices) ∙ sym list)
+      left
+      (ap₂ _+_ (St .sum) z-is ∙ sym (degrees-more G (takenList G p) (vertexAt G (s .decided))) ∙ ap (degreesOf G) (sym list))
+      (is ∙ ap₂ _||_ (St .apart) same ∙ sym (apart-taken G low (St .still-open) D e))
+    where
+      same : any (s .taken) (λ j. not (G .joined (getD w (G .size + j) 0) (vertexAt G (s .decided))))
+          ≡ any (length (takenRanks G p)) (λ j. not (G .joined (getD (takenList G p) j 0) (vertexAt G (s .decided))))
+      same =
+          any-same (s .taken) (λ j. not (G .joined (getD w (G .size + j) 0) (vertexAt G (s .decided)))) (λ j. not (G .joined (getD (takenList G p) j 0) (vertexAt G (s .decided))))
+          (λ j h. ap (λ (v : ℕ). not (G .joined v (vertexAt G (s .decided)))) (vertex-entry G p w s St j h))
+          ∙ ap (λ (k : ℕ). any k (λ j. not (G .joined (getD (takenList G p) j 0) (vertexAt G (s .decided))))) (sym (taken-count G p w s St))
+
+  -- the left neighbours of the pivot as it is taken: the same where something is taken, else those ranks below it that are adjacent to it
+  left-before : x ≡ 1 → 0 < s .taken → part w (2 * G .size) (s .left) ≡ leftRanks G q
+  left-before e some = St .left ∙ sym (left-kept G low (St .still-open) D (St .long) (some-taken St some) e)
+
+  left-new : x ≡ 1 → s .taken ≡ 0 → passing (s .decided) (adjacent G (s .decided)) ≡ leftRanks G q
+  left-new e none = sym (left-first G low (St .still-open) D (St .long) (none-taken St none) e two)
+    where
+      two : (r : ℕ) → r < s .decided → getD p r 0 ≡ 2
+      two r h =
+          let a = untaken-at G p (none-taken St none) r (omega arith) in
+          let b = St .decided r h in
+          let c = St .bytes r in
+          omega arith
+
+  -- the rank is left: the left neighbours of the pivot get it where it is one
+  push-left : x ≡ 2 → {w₂ : List ℕ} → length w₂ ≡ length w → (m : ℕ) → m ≤ s .decided + 1 → part w₂ 0 (s .taken) ≡ part w 0 (s .taken)
+      → part w₂ (G .size) (s .taken) ≡ part w (G .size) (s .taken) → part w₂ (2 * G .size) m ≡ leftRanks G q
+      → Stands G q w₂ (record { decided = s .decided + 1; taken = s .taken; left = m; sum = s .sum; apart = s .apart })
+  push-left e long m few ranks vertices left =
+      any-push long (record { decided = s .decided + 1; taken = s .taken; left = m; sum = s .sum; apart = s .apart })
+      (λ z. omega arith) (omega arith) refl (omega arith) few
+      (ranks ∙ St .ranks ∙ sym (ranks-left G low (St .still-open) D e))
+      (vertices ∙ St .vertices ∙ sym (vertices-left G low (St .still-open) D e))
+      left
+      (St .sum ∙ ap (degreesOf G) (sym (vertices-left G low (St .still-open) D e)))
+      (St .apart ∙ sym (apart-left G low (St .still-open) D e))
+
+  push-neighbour : x ≡ 2 → 0 < s .taken → adjacent G (pivot G p) (s .decided) ≡ true → leftRanks G q ≡ part w (2 * G .size) (s .left) ++ (s .decided ∷ [])
+  push-neighbour e some a = left-more G low (St .still-open) D (St .long) (some-taken St some) e a ∙ ap (λ (l : List ℕ). l ++ (s .decided ∷ [])) (sym (St .left))
+
+  push-other : x ≡ 2 → (0 < s .taken → adjacent G (pivot G p) (s .decided) ≡ false)
+      → Stands G q w (record { decided = s .decided + 1; taken = s .taken; left = s .left; sum = s .sum; apart = s .apart })
+  push-other e a = let b = St .left-bound in push-left e refl (s .left) (omega arith) refl refl (St .left ∙ sym left)
+    where
+      left : leftRanks G q ≡ leftRanks G p
+      left =
+          ⊎-elim
+          (λ l. left-same G low (St .still-open) D (St .long) (some-taken St l) e (a l))
+          (λ l. left-still-none G low (St .still-open) D (St .long) (none-taken St (omega arith)) e)
+          (lt-or-ge 0 (s .taken))
+
+-- ---- the stores, for the graph of a table
+
+module _ {n : ℕ} {t ranks : List ℕ} (R : HoldsRanks n t ranks) {w : List ℕ} {s : State} (one : StandsForOne (byTable n t) w s) (low : s .decided < n) where
+  size : byTable n t .size ≡ n
+  size = table-size n t
+
+  few-left : s .left ≤ n
+  few-left = let a = one .1 .left-bound in omega arith
+
+  few-taken : s .taken < n
+  few-taken = let a = one .1 .taken-bound in omega arith
+
+  -- the vertex that is first in part 1 is the pivot's
+  pivot-adjacent : {p : Position} → Stands (byTable n t) p w s → 0 < s .taken → {u v : ℕ} → u ≡ getD w n 0 → v ≡ getD ranks (s .decided) 0
+      → byTable n t .joined u v ≡ adjacent (byTable n t) (pivot (byTable n t) p) (s .decided)
+  unfolding adjacent
+  pivot-adjacent St h e f = ap₂ (byTable n t .joined) (e ∙ ap (λ (k : ℕ). getD w k 0) (sym size) ∙ pivot-entry St h) (f ∙ R .order (s .decided) low)
+
+  -- a left neighbour of the pivot goes onto part 2
+  pub neighbour-pushed : 0 < s .taken → {u v : ℕ} → u ≡ getD w n 0 → v ≡ getD ranks (s .decided) 0 → byTable n t .joined u v ≡ true
+      → Pushed (byTable n t) 2 w s (set w (2 * n + s .left) (s .decided)) (record { decided = s .decided + 1; taken = s .taken; left = s .left + 1; sum = s .sum; apart = s .apart })
+  neighbour-pushed some e f j =
+      let d = s .decided in
+      let a = enough R one in
+      let b = few-left in
+      let c = few-taken in
+      record {
+        stands = λ p q St D.
+            push-left St (omega (arith, size)) D refl (length-set w (2 * n + s .left) d) (s .left + 1) (let x = St .left-bound in omega arith)
+            (part-after w 0 (s .taken) (2 * n + s .left) d (omega arith))
+            (part-after w (byTable n t .size) (s .taken) (2 * n + s .left) d (omega (arith, size)))
+            (ap (λ (k : ℕ). part (set w (2 * n + s .left) d) (2 * k) (s .left + 1)) size
+            ∙ part-push w (2 * n) (s .left) d (omega arith)
+            ∙ ap (λ (k : ℕ). part w (2 * k) (s .left) ++ (d ∷ [])) (sym size)
+            ∙ sym (push-neighbour St (omega (arith, size)) D refl some (sym (pivot-adjacent St some e f) ∙ j)));
+        next = refl;
+      }
+
+  -- another rank is left: no store
+  pub other-pushed : (0 < s .taken → (u : ℕ) × (v : ℕ) × (u ≡ getD w n 0) × (v ≡ getD ranks (s .decided) 0) × (byTable n t .joined u v ≡ false))
+      → Pushed (byTable n t) 2 w s w (record { decided = s .decided + 1; taken = s .taken; left = s .left; sum = s .sum; apart = s .apart })
+  other-pushed f =
+      record {
+        stands = λ p q St D. push-other St (omega (arith, size)) D refl (λ h. let j = f h in sym (pivot-adjacent St h (j .2) (j .3)) ∙ j .4);
+        next = refl;
+      }
+
+  -- part 2 as the rank is taken: the pivot stays, or the rank becomes the pivot
+  pub left-stays : 0 < s .taken → LeftOnceTaken (byTable n t) w s w (s .left)
+  left-stays some =
+      record {
+        holds = λ p q St D. left-before St (omega (arith, size)) D refl some;
+        few = one .1 .left-bound;
+        kept = kept-none (2 * byTable n t .size) (3 * byTable n t .size) w;
+      }
+
+  pub left-found : s .taken ≡ 0 → {w₁ : List ℕ} {m i : ℕ} → i ≡ s .decided → m ≤ i → Listed (2 * n) (3 * n) (passing i (adjacent (byTable n t) (s .decided))) w w₁ m
+      → LeftOnceTaken (byTable n t) w s w₁ m
+  unfolding byTable onVertices
+  left-found none {w₁} {m} e few L =
+      record {
+        holds = λ p q St D. L .listed ∙ ap (λ (k : ℕ). passing k (adjacent (byTable n t) (s .decided))) e ∙ left-new St low D refl none;
+        few = omega arith;
+        kept = L .kept;
+      }
+
+  -- the rank goes onto part 0 and its vertex onto part 1, after part 2 was written to w₁
+  pub taken-pushed : {v e m : ℕ} {b a : Bool} {w₁ : List ℕ} → v ≡ getD ranks (s .decided) 0 → e ≡ getD ranks (n + v) 0
+      → b ≡ (s .apart || a) → a ≡ any (s .taken) (λ j. not (byTable n t .joined (getD w (n + j) 0) v)) → LeftOnceTaken (byTable n t) w s w₁ m
+      → Pushed (byTable n t) 1 w s (set (set w₁ (s .taken) (s .decided)) (n + s .taken) v)
+      (record { decided = s .decided + 1; taken = s .taken + 1; left = m; sum = s .sum + e; apart = b })
+  taken-pushed {v} {e} {m} {b} {a} {w₁} v-is e-is b-is a-is L =
+      let d = s .decided in
+      let k = s .taken in
+      let w₂ = set w₁ k d in
+      let w₃ = set w₂ (n + k) v in
+      let l = entry-below R d low in
+      let room = enough R one in
+      let long = L .kept .length-kept in
+      let c = few-taken in
+      let at = v-is ∙ R .order d low in
+      record {
+        stands = λ p q St D.
+            push-taken St (omega (arith, size)) D refl (simp length-set long) m e (L .few)
+            (e-is ∙ R .degrees v (omega arith) ∙ ap (degree (byTable n t)) at) b
+            (b-is ∙ ap (λ (y : Bool). s .apart || y) a-is ∙ ap₂ (λ (a x : ℕ). s .apart || any k (λ j. not (byTable n t .joined (getD w (a + j) 0) x))) (sym size) at)
+            (part-after w₂ 0 (k + 1) (n + k) v (omega arith)
+            ∙ ap (λ (i : ℕ). part (set w₁ i d) 0 (k + 1)) (sym (zero-add k))
+            ∙ part-push w₁ 0 k d (omega arith)
+            ∙ ap (λ (us : List ℕ). us ++ (d ∷ [])) (part-below _ _ w w₁ (L .kept) 0 k (omega (arith, size))))
+            (ap (λ (a : ℕ). part w₃ a (k + 1)) size
+            ∙ part-push w₂ n k v (simp length-set (omega arith))
+            ∙ ap₂ (λ (us : List ℕ) (x : ℕ). us ++ (x ∷ []))
+            (part-before w₁ n k k d (omega arith) ∙ part-below _ _ w w₁ (L .kept) n k (omega (arith, size)) ∙ ap (λ (a : ℕ). part w a k) (sym size)) at)
+            (part-before w₂ (2 * byTable n t .size) m (n + k) v (omega (arith, size))
+            ∙ part-before w₁ (2 * byTable n t .size) m k d (omega (arith, size))
+            ∙ L .holds p q St D);
+        next = refl;
+      }

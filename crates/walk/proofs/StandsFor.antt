@@ -1,0 +1,174 @@
+-- What a state and a work slice that stand for a position say of it: the entries of the three parts, what is taken and open, finished and dead.
+-- Assumes nothing.
+use Prim.Native.Nat.{ℕ, _+_, _*_, _≤_, _<_}
+use mathlib.Core.Path.{_≡_, refl, sym, ap, ap₂, _∙_}
+use mathlib.Core.Bool.{Bool, true, false, _&&_, not, or-false}
+use mathlib.Core.List.{List}
+use mathlib.Core.Logic.{⊎-elim}
+use native.Mathlib.Omega.{arith}
+use lib.ListN.{length, getD}
+use lib.Dec.{leb, eqb}
+use borrow.Author.Tests.{eq-eqb, ne-eqb}
+use Rattle.model.specs.Graph.{Graph, byTable, degree, vertexAt}
+use Rattle.model.specs.Groups.{Factor}
+use Rattle.model.specs.Walk.{Position, has, finished}
+use Rattle.model.specs.Listing.{is, adjacent, pivot, apart, leftNeighbours, dead, takenList}
+use Rattle.theory.proofs.basics.Tests.{lt-or-ge, count-same}
+use Rattle.theory.proofs.basics.Parts.{part-length, part-at}
+use Rattle.theory.proofs.basics.Passing.{map-at}
+use Rattle.theory.proofs.basics.PassingParts.{passing-count}
+use Rattle.theory.proofs.graph.Factor.{at-least}
+use Rattle.theory.proofs.graph.Ranks.{vertex-at}
+use Rattle.theory.proofs.walk.Moves.{has-found, has-none, finished-is}
+use Rattle.theory.specs.Parts.{part}
+use Rattle.graph.proofs.Ranks.{table-size, degree-le}
+use Rattle.graph.specs.Ranks.{HoldsRanks}
+use Rattle.walk.specs.State.{takenRanks, leftOfPivot, leftRanks, Stands, StandsForOne}
+use Rattle.walk.specs.declared.State.{State}
+use Rattle.walk.proofs.Taken.{taken-list, taken-length, taken-at, taken-has, untaken-has, pivot-first, apart-none, degrees-bound}
+
+-- ---- how many entries the parts have, and which
+
+module _ (G : Graph) (p : Position) (w : List ℕ) (s : State) (St : Stands G p w s) where
+  pub taken-count : length (takenRanks G p) ≡ s .taken
+  taken-count = ap length (sym (St .ranks)) ∙ part-length w 0 (s .taken) (omega arith)
+
+  pub left-count : length (leftRanks G p) ≡ s .left
+  left-count = ap length (sym (St .left)) ∙ part-length w (2 * G .size) (s .left) (omega arith)
+
+  pub vertex-entry : (j : ℕ) → j < s .taken → getD w (G .size + j) 0 ≡ getD (takenList G p) j 0
+  vertex-entry j h = sym (part-at w (G .size) (s .taken) j h) ∙ ap (λ (l : List ℕ). getD l j 0) (St .vertices)
+
+  pub left-entry : (j : ℕ) → j < s .left → getD w (2 * G .size + j) 0 ≡ getD (leftRanks G p) j 0
+  left-entry j h = sym (part-at w (2 * G .size) (s .left) j h) ∙ ap (λ (l : List ℕ). getD l j 0) (St .left)
+
+module _ {G : Graph} {p : Position} {w : List ℕ} {s : State} (St : Stands G p w s) where
+  pub rank-entry : (j : ℕ) → j < s .taken → getD w j 0 ≡ getD (takenRanks G p) j 0
+  rank-entry j h =
+      let z : 0 + j ≡ j = omega arith in
+      ap (λ (i : ℕ). getD w i 0) (sym z) ∙ sym (part-at w 0 (s .taken) j h) ∙ ap (λ (l : List ℕ). getD l j 0) (St .ranks)
+
+  -- part 1 holds the vertices at the ranks of part 0
+  pub vertex-of-rank : (j : ℕ) → j < s .taken → getD w (G .size + j) 0 ≡ vertexAt G (getD (takenRanks G p) j 0)
+  vertex-of-rank j h =
+      let k = taken-count G p w s St in
+      vertex-entry G p w s St j h ∙ ap (λ (l : List ℕ). getD l j 0) (taken-list G p) ∙ map-at (vertexAt G) (takenRanks G p) j (omega arith)
+
+  pub vertex-low : (j : ℕ) → j < s .taken → getD w (G .size + j) 0 < G .size
+  vertex-low j h =
+      let k = taken-count G p w s St in
+      let a = taken-at G p j (omega arith) in
+      let b = vertex-at G (getD (takenRanks G p) j 0) (a .0) .0 in
+      let e = vertex-of-rank j h in
+      omega arith
+
+  pub rank-low : (j : ℕ) → j < s .taken → getD w j 0 < s .decided
+  rank-low j h =
+      let k = taken-count G p w s St in
+      let b = taken-at G p j (omega arith) .1 in
+      let e = rank-entry j h in
+      ⊎-elim (λ l. l) (λ l. let z = St .still-open (getD (takenRanks G p) j 0) (omega arith) in absurd (omega arith)) (lt-or-ge (getD w j 0) (s .decided))
+
+  -- the pivot's vertex comes first in part 1
+  pub pivot-entry : 0 < s .taken → getD w (G .size) 0 ≡ vertexAt G (pivot G p)
+  pivot-entry h =
+      let k = taken-count G p w s St in
+      let z : G .size + 0 ≡ G .size = omega arith in
+      ap (λ (i : ℕ). getD w i 0) (sym z) ∙ vertex-of-rank 0 h ∙ ap (vertexAt G) (pivot-first G p (omega arith) .2)
+
+  -- ---- what is taken, and what is open
+
+  pub none-taken : s .taken ≡ 0 → length (takenRanks G p) ≡ 0
+  none-taken e = taken-count G p w s St ∙ e
+
+  pub some-taken : 0 < s .taken → 0 < length (takenRanks G p)
+  some-taken h = let k = taken-count G p w s St in omega arith
+
+  pub no-open : G .size ≤ s .decided → has 0 p ≡ false
+  no-open h = let l = St .long in has-none 0 p (λ r b. St .decided r (omega arith))
+
+  pub some-open : s .decided < G .size → has 0 p ≡ true
+  some-open h = let l = St .long in has-found 0 p (s .decided) (omega arith) (St .still-open (s .decided) (omega arith))
+
+  has-none-taken : s .taken ≡ 0 → has 1 p ≡ false
+  has-none-taken e = untaken-has G p (St .long) (none-taken e)
+
+  has-taken : 0 < s .taken → has 1 p ≡ true
+  has-taken h = taken-has G p (St .long) (some-taken h)
+
+  -- ---- finished and dead
+
+  finished-by : {a b : Bool} → has 0 p ≡ a → has 1 p ≡ b → finished p ≡ (not a && not b)
+  finished-by e f = finished-is p (St .bytes) ∙ ap₂ (λ (x y : Bool). not x && not y) e f
+
+  pub finished-open : s .decided < G .size → finished p ≡ false
+  finished-open h = finished-by (some-open h) refl
+
+  pub finished-decided : G .size ≤ s .decided → finished p ≡ eqb (s .taken) 0
+  finished-decided h =
+      ⊎-elim
+      (λ l. finished-by (no-open h) (has-taken l) ∙ sym (ne-eqb (s .taken) 0 (λ z. omega arith)))
+      (λ l. finished-by (no-open h) (has-none-taken (omega arith)) ∙ sym (eq-eqb (s .taken) 0 (omega arith)))
+      (lt-or-ge 0 (s .taken))
+
+  -- the left neighbours of the pivot are counted
+  left-is : 0 < s .taken → leftNeighbours G p (pivot G p) ≡ s .left
+  unfolding leftNeighbours leftRanks
+  left-is h =
+      count-same (G .size) (λ r. is 2 p r && adjacent G (pivot G p) r) (leftOfPivot G p) (λ r l. rw (has-taken h))
+      ∙ sym (passing-count (G .size) (leftOfPivot G p))
+      ∙ left-count G p w s St
+
+  pub dead-apart : (c : Factor) → s .apart ≡ true → dead G c p ≡ true
+  unfolding dead
+  dead-apart c e = rw (sym (St .apart) ∙ e)
+
+  pub dead-untaken : (c : Factor) → s .taken ≡ 0 → dead G c p ≡ s .apart
+  unfolding dead
+  dead-untaken c e = rw (has-none-taken e, St .apart) (or-false (apart G p))
+
+  pub untaken-live : (c : Factor) → s .taken ≡ 0 → dead G c p ≡ false
+  untaken-live c e = dead-untaken c e ∙ St .apart ∙ apart-none G p (none-taken e)
+
+  -- Document 01, "The walk": at least c neighbours of the pivot are left
+  pub dead-by-left : (c : Factor) → 0 < s .taken → s .apart ≡ false → dead G c p ≡ leb c (s .left)
+  unfolding dead
+  dead-by-left c h e = rw (sym (St .apart) ∙ e, has-taken h, left-is h) (sym (at-least c (s .left)))
+
+-- ---- the same for the graph of a table
+
+module _ {n : ℕ} {t ranks : List ℕ} (R : HoldsRanks n t ranks) {w : List ℕ} {s : State} (one : StandsForOne (byTable n t) w s) where
+  -- the work slice has 8 × n entries or more
+  pub enough : 8 * n ≤ length w
+  enough = let a = one .1 .room in let b = table-size n t in omega arith
+
+  -- the taken vertices in part 1 are vertices
+  pub taken-low : (j : ℕ) → j < s .taken → getD w (n + j) 0 < n
+  taken-low j h =
+      let a = vertex-low (one .1) j h in
+      let b = table-size n t in
+      let c = ap (λ (k : ℕ). getD w (k + j) 0) b in
+      omega arith
+
+  pub first-low : 0 < s .taken → getD w n 0 < n
+  first-low h =
+      let a = taken-low 0 h in
+      let z : n + 0 ≡ n = omega arith in
+      let b = ap (λ (k : ℕ). getD w k 0) z in
+      omega arith
+
+module _ {n : ℕ} {t ranks : List ℕ} (R : HoldsRanks n t ranks) where
+  -- a degree, and the sum of the degrees of the taken vertices, are small
+  pub degree-small : (v : ℕ) → degree (byTable n t) v ≤ 1024
+  degree-small v = let a = degree-le n t v in let b = R .fits .small in omega arith
+
+  pub sum-small : {p : Position} {w : List ℕ} {s : State} → Stands (byTable n t) p w s → s .sum ≤ 1048576
+  sum-small {p} {w} {s} St =
+      let a = degrees-bound (byTable n t) 1024 degree-small (takenList (byTable n t) p) in
+      let b = taken-length (byTable n t) p ∙ taken-count (byTable n t) p w s St in
+      let c = St .sum in
+      let d = St .taken-bound in
+      let e = St .bound in
+      let f = table-size n t in
+      let g = R .fits .small in
+      omega arith

@@ -1,0 +1,118 @@
+-- `walk::left_once_taken` meets its contract: part 2 holds the ranks that were passed and are adjacent to d.
+-- Assumes nothing.
+use Prim.Native.Nat.{ℕ, _-_, _*_, _≤_}
+use mathlib.Core.Path.{sym, _∙_}
+use mathlib.Core.Logic.{⊎-elim}
+use native.Mathlib.Omega.{arith}
+use Rattle.model.specs.Below.{passing}
+use Rattle.model.specs.Graph.{byTable}
+use Rattle.model.specs.Listing.{adjacent}
+use Rattle.theory.specs.Parts.{Listed}
+use Rattle.theory.proofs.basics.Parts.{listed-none, listed-push, listed-pass, listed-same}
+use Rattle.theory.proofs.basics.Passing.{passing-none, passing-hit, passing-miss}
+use Rattle.graph.proofs.Ranks.{entry-below, entries-adjacent}
+use Rattle.walk.proofs.StandsFor.{enough}
+use Rattle.walk.proofs.RankPushed.{left-stays, left-found}
+use borrow.Author.Needs.{needs}
+use Rattle.walk.proofs.left_once_taken.Statement.{statement}
+use Rattle.walk.proofs.left_once_taken.Tie as tie
+
+abbrev Inv-loop : tie.InvT-loop
+Inv-loop table ranks n work₀ d k v m₀ i₀ work m i =
+    (i ≤ d) × (m ≤ i) × Listed (2 * n) (3 * n) (passing i (adjacent (byTable n table) d)) work₀ work m
+
+abbrev μ-loop : tie.MeasureT-loop
+μ-loop table ranks n work₀ d k v m₀ i₀ work m i = d - i
+
+returns : tie.Need-returns Inv-loop μ-loop
+returns c =
+    let q = c .before .before .before .before .pre in
+    left-stays (q .0) (q .1) (q .2) (omega arith)
+
+entry-at-requires : tie.Need-entry-at-requires Inv-loop μ-loop
+entry-at-requires c κs = search needs
+
+loop-holds : tie.Need-loop-holds Inv-loop μ-loop
+loop-holds c = (omega arith, omega arith, listed-none _ _ _ _ (passing-none _))
+
+entry-at-requires-2 : tie.Need-entry-at-requires-2 Inv-loop μ-loop
+entry-at-requires-2 c κs = search needs
+
+joined-requires : tie.Need-joined-requires Inv-loop μ-loop
+joined-requires c κs =
+    let q = c .before .before .before .before .before .before .before .before .pre in
+    let i = c .before .before .loop .i in
+    (q .0 .fits, omega (arith, entry-below (q .0) _ (q .2), c .before .before .before .entry-at .ensures), omega (arith, entry-below (q .0) i (omega arith), c .entry-at2 .ensures))
+
+cast-work : tie.Need-cast-work Inv-loop μ-loop
+cast-work c = search needs
+
+mul-work : tie.Need-mul-work Inv-loop μ-loop
+mul-work c = search needs
+
+add-work : tie.Need-add-work Inv-loop μ-loop
+add-work c = search needs
+
+mul-work-2 : tie.Need-mul-work-2 Inv-loop μ-loop
+mul-work-2 c = search needs
+
+slice-write-work : tie.Need-slice-write-work Inv-loop μ-loop
+slice-write-work c =
+    let q = c .before .before .before .before .before .before .before .before .before .before .pre in
+    omega (arith, q .2, enough (q .0) (q .1), c .before .before .before .before .loop .inv .2 .kept .length-kept)
+
+add-m : tie.Need-add-m Inv-loop μ-loop
+add-m c = search needs
+
+add-i : tie.Need-add-i Inv-loop μ-loop
+add-i c = search needs
+
+loop-less : tie.Need-loop-less Inv-loop μ-loop
+loop-less c = search needs
+
+loop-again : tie.Need-loop-again Inv-loop μ-loop
+loop-again c =
+    let b = c .before .before .before .before .before .before .before .before .before .before in
+    let q = b .pre in
+    let n = b .args .n in
+    let o = c .before .before .before .before in
+    let i = o .loop .i in
+    let inv = o .loop .inv in
+    let p = adjacent (byTable n (b .args .table .now)) (b .args .s .decided) in
+    let a = sym (entries-adjacent (q .0) (q .2) (omega arith) (o .before .entry-at .ensures) (c .before .before .entry-at2 .ensures)) ∙ sym (c .before .joined .ensures) in
+    ⊎-elim
+    (λ y. (omega arith, omega arith, listed-same (y .1) (y .2) (listed-push (2 * n) (3 * n) (b .args .work .now) (inv .2) i _ (passing-hit p i (a ∙ y .0 .taken)) (omega arith) (omega (arith, enough (q .0) (q .1))))))
+    (λ y. (omega arith, omega arith, listed-same (y .1) (y .2) (listed-pass _ _ _ (inv .2) _ (passing-miss p i (a ∙ y .0 .left)))))
+    (c .if2 .came)
+
+same-length : tie.Need-same-length Inv-loop μ-loop
+same-length c = c .before .loop .inv .2 .kept .length-kept
+
+returns-2 : tie.Need-returns-2 Inv-loop μ-loop
+returns-2 c =
+    let q = c .before .before .before .before .before .before .before .pre in
+    let l = c .before .loop in
+    left-found (q .0) (q .1) (q .2) (omega arith) (omega arith) (l .inv .1) (l .inv .2)
+
+pub left-once-taken-spec : {M : Type 1} → statement M
+left-once-taken-spec =
+    tie.close
+    (tie.spec
+    Inv-loop
+    μ-loop
+    returns
+    entry-at-requires
+    loop-holds
+    entry-at-requires-2
+    joined-requires
+    cast-work
+    mul-work
+    add-work
+    mul-work-2
+    slice-write-work
+    add-m
+    add-i
+    loop-less
+    loop-again
+    same-length
+    returns-2)
