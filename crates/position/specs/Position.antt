@@ -1,15 +1,11 @@
 -- What the refusals of a position read, and what their parts find.
 -- Assumes nothing.
-use Prim.Native.Nat.{ℕ, _≤_}
+use Prim.Native.Nat.{ℕ}
 use mathlib.Core.Bool.{Bool, _&&_, not}
-use mathlib.Core.List.{List}
-use lib.ListN.{length}
-use Rattle.model.specs.Below.{any, count}
-use Rattle.model.specs.Graph.{Graph, byTable}
+use Rattle.model.specs.Below.{any}
+use Rattle.model.specs.Graph.{Graph}
 use Rattle.model.specs.Walk.{Position}
 use Rattle.model.specs.Listing.{is, adjacent}
-use Rattle.graph.specs.Table.{TableFits}
-use Rattle.graph.specs.Ranks.{HoldsOrder}
 
 -- rank i is taken and not adjacent to rank s
 abbrev pub stranger : Graph → Position → ℕ → ℕ → Bool

@@ -4,7 +4,7 @@ use Prim.Native.Nat.{ℕ, _≤_, _<_}
 use mathlib.Core.Path.{_≡_, refl, sym, ap, ap₂, _∙_, subst⁻¹}
 use mathlib.Core.Bool.{Bool, true, false, _&&_, _||_, not, and-false, true≢false}
 use mathlib.Core.List.{List}
-use mathlib.Core.Logic.{⊎-elim}
+use mathlib.Core.Logic.{_≢_}
 use native.Mathlib.Omega.{arith}
 use borrow.Author.Tests.{eq-eqb}
 use Rattle.model.specs.Graph.{Graph, byTable}
@@ -12,20 +12,15 @@ use Rattle.model.specs.Groups.{Factor}
 use Rattle.model.specs.Walk.{Position, has, finished, advance, retreat, step}
 use Rattle.model.specs.Listing.{apart, dead}
 use Rattle.model.specs.Calls.{reopened, refusePosition}
-use Rattle.theory.proofs.basics.Tests.{lt-or-ge}
 use Rattle.theory.proofs.walk.Walk.{step-down, step-up}
 use Rattle.theory.proofs.calls.PageAccepted.{refuse-pass}
 use Rattle.theory.proofs.calls.Pages.{table-lawful}
 use Rattle.theory.proofs.walk.Moves.{step-accepted}
 use Rattle.graph.proofs.Ranks.{table-size}
 use Rattle.walk.specs.State.{Stands}
-use Rattle.walk.specs.Walk.{rulesAt, Passes, Walking, Moved, Stepped}
+use Rattle.walk.specs.Walk.{rulesAt, Walking, Moved, Stepped}
 use Rattle.walk.specs.declared.State.{State}
 use Rattle.walk.proofs.StandsFor.{some-open, no-open, finished-decided, untaken-live}
-
--- something is taken where nothing taken is absurd
-some-taken : (k : ℕ) → (k ≡ 0 → ⊥) → 0 < k
-some-taken k f = ⊎-elim (λ l. l) (λ l. absurd (f (omega arith))) (lt-or-ge 0 k)
 
 module _ {n : ℕ} {c : Factor} {t ranks : List ℕ} {p : Position} {w : List ℕ} {s : State} (W : Walking n c t ranks p w s) where
   abbrev G : Graph
@@ -42,12 +37,12 @@ module _ {n : ℕ} {c : Factor} {t ranks : List ℕ} {p : Position} {w : List �
 
   -- something is taken where the position is dead, or decided and not finished
   pub dead-taken : dead G c p ≡ true → 0 < s .taken
-  dead-taken e = some-taken (s .taken) (λ z. true≢false (sym e ∙ untaken-live (W .stands) c z))
+  dead-taken e = let some : s .taken ≢ 0 = λ z. true≢false (sym e ∙ untaken-live (W .stands) c z) in omega arith
 
   pub decided-taken : finished p ≡ false → n ≤ s .decided → 0 < s .taken
   decided-taken e h =
-      some-taken (s .taken)
-      (λ z. true≢false (sym (eq-eqb (s .taken) 0 z) ∙ sym (finished-decided (W .stands) (omega (arith, table-size n t))) ∙ e))
+      let some : s .taken ≢ 0 = λ z. true≢false (sym (eq-eqb (s .taken) 0 z) ∙ sym (finished-decided (W .stands) (omega (arith, table-size n t))) ∙ e) in
+      omega arith
 
   to-step : {q x : Position} {w₂ : List ℕ} {s₂ : State} → step (rulesAt G c) p ≡ q → Moved G q x w₂ s₂ → Stepped G c p x w₂ s₂
   to-step {q} {x} {w₂} {s₂} e M =

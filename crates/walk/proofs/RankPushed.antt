@@ -14,7 +14,7 @@ use Rattle.model.specs.Walk.{Position}
 use Rattle.model.specs.Listing.{adjacent, pivot, apart, takenList}
 use Rattle.theory.proofs.basics.Tests.{any-same, last-or-below, lt-or-ge, trichotomy}
 use Rattle.theory.proofs.basics.Parts.{part-push, part-before, part-after, part-below, kept-none}
-use Rattle.theory.specs.Parts.{part, Kept, Listed}
+use Rattle.theory.specs.Parts.{part, Listed}
 use Rattle.graph.proofs.Ranks.{table-size, entry-below}
 use Rattle.graph.specs.Ranks.{HoldsRanks}
 use Rattle.walk.specs.State.{takenRanks, leftRanks, degreesOf, Stands, StandsForOne}

@@ -20,7 +20,6 @@ use Rattle.theory.proofs.basics.PassingParts.{passing-count}
 use Rattle.theory.proofs.graph.Factor.{at-least}
 use Rattle.theory.proofs.graph.Ranks.{vertex-at}
 use Rattle.theory.proofs.walk.Moves.{has-found, has-none, finished-is}
-use Rattle.theory.specs.Parts.{part}
 use Rattle.graph.proofs.Ranks.{table-size, degree-le}
 use Rattle.graph.specs.Ranks.{HoldsRanks}
 use Rattle.walk.specs.State.{takenRanks, leftOfPivot, leftRanks, Stands, StandsForOne}

@@ -232,17 +232,20 @@ pub fn back(
     let d = s.decided;
     let k = s.taken - 1;
     let r = entry_at(work, k);
-    let v = entry_at(work, n + k);
-    let degree = entry_at(ranks, n + v);
+    let last = entry_at(work, n + k);
+    let last_degree = entry_at(ranks, n + last);
+    let left = trim(work, n, k, s.left, r);
+    let sum = s.sum - last_degree;
     let rest = State {
         decided: r,
         taken: k,
-        left: trim(work, n, k, s.left, r),
-        sum: s.sum - degree,
+        left,
+        sum,
         apart: false,
     };
+    let next = r + 1;
     position[r] = 2;
-    open_ranks(position, r + 1, d);
+    open_ranks(position, next, d);
     push_left(rest, table, ranks, n, work)
 }
 

@@ -39,20 +39,20 @@ trim-requires c κs =
     let b = c .before .before .before .before .before .before .before .before .before .before .before in
     omega (arith, b .pre .1 .room, b .pre .1 .left-bound, b .pre .1 .bound, table-size (b .args .n) (b .args .table .now))
 
-sub-t20 : tie.Need-sub-t20
-sub-t20 c =
+sub-sum : tie.Need-sub-sum
+sub-sum c =
     let q = c .before .before .before .before .before .before .before .before .before .before .before .before .before .pre in
     omega (arith, last-sum (q .0) (q .1) (q .2) (c .before .before .before .before .before .before .entry-at .ensures) (c .before .before .before .before .entry-at2 .ensures) (c .before .before .before .entry-at3 .ensures))
+
+add-next : tie.Need-add-next
+add-next c =
+    let q = c .before .before .before .before .before .before .before .before .before .before .before .before .before .pre in
+    omega (arith, highest-decided (q .1) (q .2) (c .before .before .before .before .before .before .entry-at .ensures), q .1 .bound, q .1 .long)
 
 slice-write-position : tie.Need-slice-write-position
 slice-write-position c =
     let b = c .before .before .before .before .before .before .before .before .before .before .before .before .before in
     omega (arith, highest-decided (b .pre .1) (b .pre .2) (c .before .before .before .before .before .before .entry-at .ensures), b .pre .1 .bound, b .pre .1 .long)
-
-add-open-ranks : tie.Need-add-open-ranks
-add-open-ranks c =
-    let q = c .before .before .before .before .before .before .before .before .before .before .before .before .before .before .pre in
-    omega (arith, highest-decided (q .1) (q .2) (c .before .before .before .before .before .before .before .entry-at .ensures), q .1 .bound, q .1 .long)
 
 open-ranks-requires : tie.Need-open-ranks-requires
 open-ranks-requires c κs =
@@ -97,9 +97,9 @@ back-spec =
     add-entry-at-2
     entry-at-requires-3
     trim-requires
-    sub-t20
+    sub-sum
+    add-next
     slice-write-position
-    add-open-ranks
     open-ranks-requires
     push-left-requires
     same-length
