@@ -1,7 +1,7 @@
 -- The position with a rank and all after it opened: how a position is built up again from there, and how ranks are opened one after the other.
 -- Assumes nothing.
 use Prim.Native.Nat.{ℕ, _+_, _-_, _*_, _≤_, _<_, zero-le}
-use mathlib.Core.Path.{_≡_, refl, sym, ap, _∙_}
+use mathlib.Core.Path.{_≡_, refl, sym, ap, _∙_, subst}
 use mathlib.Core.Bool.{false, true≢false}
 use mathlib.Core.List.{List, [], _++_}
 use mathlib.Core.Logic.{_⊎_, inl, inr, ⊎-elim}
@@ -19,6 +19,7 @@ use Rattle.theory.proofs.walk.Remaining.{open-zero, fresh-open}
 use Rattle.graph.proofs.Refusals.{over-found}
 use Rattle.walk.specs.State.{takenRanks, degreesOf, Stands}
 use Rattle.walk.specs.Walk.{Decides, RanksOpened}
+use Rattle.walk.specs.declared.State.{State}
 use Rattle.walk.proofs.Taken.{apart-none, degrees-none, taken-length, taken-at, left-none}
 
 -- the position with rank d and all after it opened
@@ -107,12 +108,17 @@ module _ (p : Position) (d : ℕ) (h : d < length p) where
       }
 
 -- where all ranks from d on are open already, nothing is opened
-pub opened-same : (p : Position) (d : ℕ) → d ≤ length p → ((r : ℕ) → d ≤ r → getD p r 0 ≡ 0) → opened d p ≡ p
+opened-same : (p : Position) (d : ℕ) → d ≤ length p → ((r : ℕ) → d ≤ r → getD p r 0 ≡ 0) → opened d p ≡ p
 opened-same p d h clear = ext-getD 0 (opened d p) p (opened-length d p h) (λ r l. at r (lt-or-ge r d))
   where
     at : (r : ℕ) → (r < d) ⊎ (d ≤ r) → getD (opened d p) r 0 ≡ getD p r 0
     at r (inl l) = opened-below d p h r l
     at r (inr l) = opened-above d p h r l ∙ sym (clear r l)
+
+-- so a state that stands for it stands for the position
+pub stands-whole : {G : Graph} {p : Position} {w : List ℕ} {s : State} → Stands G (opened (s .decided) p) w s → s .decided ≤ length p
+    → ((r : ℕ) → s .decided ≤ r → getD p r 0 ≡ 0) → Stands G p w s
+stands-whole {G} {p} {w} {s} St h clear = subst (λ (q : Position). Stands G q w s) (opened-same p (s .decided) h clear) St
 
 -- without a gap all ranks after an open one are open
 pub gapless : (p : Position) → gap p ≡ false → (d : ℕ) → getD p d 0 ≡ 0 → (r : ℕ) → d ≤ r → getD p r 0 ≡ 0

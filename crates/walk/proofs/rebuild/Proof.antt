@@ -1,15 +1,14 @@
 -- `walk::rebuild` meets its contract: the state stands for the position with the ranks from `decided` on opened.
 -- Assumes nothing.
 use Prim.Native.Nat.{ℕ, _+_, _-_, _<_}
-use mathlib.Core.Path.{_≡_, refl, _∙_, subst, subst⁻¹}
+use mathlib.Core.Path.{_≡_, refl, _∙_, subst⁻¹}
 use mathlib.Core.Logic.{_≢_}
 use native.Mathlib.Omega.{arith}
 use lib.ListN.{length, getD, List·getD-eq-default}
 use Rattle.model.specs.Graph.{byTable}
-use Rattle.model.specs.Walk.{Position}
 use Rattle.graph.proofs.Ranks.{table-size}
 use Rattle.walk.specs.State.{Stands}
-use Rattle.walk.proofs.Opened.{opened, fresh-stands, opened-decides, opened-same, gapless, bytes-most}
+use Rattle.walk.proofs.Opened.{opened, fresh-stands, opened-decides, stands-whole, gapless, bytes-most}
 use borrow.Author.Needs.{needs}
 use Rattle.walk.proofs.rebuild.Statement.{statement}
 use Rattle.walk.proofs.rebuild.Tie as tie
@@ -24,7 +23,7 @@ loop-holds : tie.Need-loop-holds Inv-loop μ-loop
 loop-holds c =
     let b = c .before .before .before .before in
     let size = table-size (b .args .n) (b .args .table .now) in
-    (fresh-stands (byTable (b .args .n) (b .args .table .now)) (b .args .position .now) (b .args .work .now) (omega (arith, b .pre .1)) (omega (arith, b .pre .2)), refl)
+    (fresh-stands _ _ _ (omega (arith, b .pre .1)) (omega (arith, b .pre .2)), refl)
 
 shared-slice-read-mark : tie.Need-shared-slice-read-mark Inv-loop μ-loop
 shared-slice-read-mark c = search needs
@@ -36,10 +35,7 @@ returns : tie.Need-returns Inv-loop μ-loop
 returns c =
     let b = c .before .before .before .before .before .before .before .before .before in
     let l = c .before .before .before .before .loop in
-    let p = b .args .position .now in
-    let z : getD p (l .s .decided) 0 ≡ 0 = c .if2 .taken in
-    subst (λ (q : Position). Stands (byTable (b .args .n) (b .args .table .now)) q (l .work) (l .s))
-    (opened-same p (l .s .decided) (omega (arith, b .pre .1)) (gapless p (b .pre .4) (l .s .decided) z)) (l .inv .0)
+    stands-whole (l .inv .0) (omega (arith, b .pre .1)) (gapless _ (b .pre .4) (l .s .decided) (c .if2 .taken))
 
 push-requires : tie.Need-push-requires Inv-loop μ-loop
 push-requires c κs =
@@ -77,12 +73,8 @@ returns-2 : tie.Need-returns-2 Inv-loop μ-loop
 returns-2 c =
     let b = c .before .before .before .before .before .before .before in
     let l = c .before .before .loop in
-    let p = b .args .position .now in
-    let St = l .inv .0 in
-    let size = table-size (b .args .n) (b .args .table .now) in
-    let e : l .s .decided ≡ length p = omega (arith, St .bound, b .pre .1) in
-    subst (λ (q : Position). Stands (byTable (b .args .n) (b .args .table .now)) q (l .work) (l .s))
-    (opened-same p (l .s .decided) (omega arith) (λ r k. List·getD-eq-default p 0 (omega arith))) St
+    let e : l .s .decided ≡ length (b .args .position .now) = omega (arith, l .inv .0 .bound, b .pre .1, table-size (b .args .n) (b .args .table .now)) in
+    stands-whole (l .inv .0) (omega arith) (λ r k. List·getD-eq-default (b .args .position .now) 0 (omega arith))
 
 pub rebuild-spec : {M : Type 1} → statement M
 rebuild-spec =
