@@ -5,10 +5,9 @@ use mathlib.Core.Path.{_≡_, ap, sym, _∙_}
 use mathlib.Core.List.{List, _∷_, _++_, append-nil, append-assoc}
 use native.Mathlib.Nat.{add-comm}
 use native.Mathlib.Omega.{arith}
-use lib.ListN.{length, take, drop, set, getD, length-take, length-drop}
-use lib.Seq.{paste, take-suc-set, drop-set-lt, drop-length, take-all, drop-drop, getD-take, getD-drop}
+use lib.ListN.{length, take, drop, set, length-drop}
+use lib.Seq.{paste, take-suc-set, drop-set-lt, drop-length, take-all, drop-drop}
 use borrow.Rule.Slice.PartMut.{putMid, post-is}
-use Rattle.theory.specs.Parts.{part}
 
 -- the size and then the members, written over the start of d
 pub group-put : (d s : List ℕ) (k : ℕ) → 0 < length d → length s ≡ k → paste (set d 0 k) 1 s k ≡ (k ∷ s) ++ drop (k + 1) d

@@ -1,6 +1,6 @@
 -- Laws.
-pub mod Found
-pub mod Judging
-pub mod Sifting
-pub mod Emitting
+pub mod Candidates
+pub mod TakenSet
+pub mod Verdicts
+pub mod Output
 pub mod Groups

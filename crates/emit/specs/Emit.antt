@@ -1,4 +1,4 @@
--- What the page puts out at a position, and what it then answers.
+-- What is put out at a position, and what is then answered.
 -- Assumes nothing.
 use Prim.Native.Nat.{ℕ, _+_, _≤_, _<_}
 use mathlib.Core.Path.{_≡_}

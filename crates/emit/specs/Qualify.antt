@@ -1,4 +1,4 @@
--- Which vertices can be added to the taken ones, and whether the taken set qualifies, as the page computes them.
+-- Which vertices can be added to the taken ones, and whether the taken set qualifies, as code computes them from the state of the walk.
 -- Assumes nothing.
 use Prim.Native.Nat.{ℕ, _+_, _-_, _*_, _≤_, _<_}
 use mathlib.Core.Path.{_≡_}
@@ -40,7 +40,7 @@ pub record Sifts (n : ℕ) (t ranks w : List ℕ) (taken left : ℕ) : Type 0 wh
 pub record Sifted (n : ℕ) (t before after : List ℕ) (taken left m : ℕ) : Type 0 where
   pub fewer : m ≤ left
   pub holds : part after (3 * n) m ≡ joinedOf (byTable n t) (part before n taken) (map (vertexAt (byTable n t)) (part before (2 * n) left))
-  pub kept : Kept (3 * n) (4 * n) before after
+  pub kept : Kept (3 * n) (3 * n + n) before after
 
 -- the taken set's numbers: how many, the sum of their degrees, the least, which is the first one's, and the largest, which is the last one's
 abbrev pub tallyOf : Graph → Position → Tally

@@ -5,7 +5,7 @@ ghost use Prim.Native.Nat.{_+_, _≤_};
 ghost use lib.ListN.{length, take, drop};
 ghost use Rattle.theory.specs.Parts.{part};
 
-// The entry for a group's size.
+// The entry for a group's size: at most 1,024 vertices, so it fits 16 bits.
 fn size_entry(k: usize) -> u16
     requires { ⌜ k ≤ 1024 ⌝ }
     ensures { λ r. ⌜ r ≡ k ⌝ }
@@ -15,6 +15,7 @@ fn size_entry(k: usize) -> u16
 
 // Writes a group of k vertices at the start of out: its size and then the k vertices that stand in work from entry `from` on. The rest of out keeps
 // its contents.
+// Document 01, "A page", point 4: a group is its size and then its vertices in rank order.
 fn write_group(out: &mut [u16], work: &[u16], from: usize, k: usize)
     requires { ⌜ (k + 1 ≤ length (now out)) × (from + k ≤ length (now work)) × (k ≤ 1024) ⌝ }
     ensures { λ _. ⌜ now (out .exit) ≡ (k ∷ part (now (work .entry)) from k) ++ drop (k + 1) (now (out .entry)) ⌝ }
@@ -29,6 +30,7 @@ fn write_group(out: &mut [u16], work: &[u16], from: usize, k: usize)
 
 // Writes a group of k vertices into the output right after its first `used` entries, and nothing else of it: lends the unused part of the output to
 // `write_group`.
+// Document 01, "A page", point 4: the group goes right after the entries already used.
 pub fn put_group(output: &mut [u16], used: usize, work: &[u16], from: usize, k: usize)
     requires { ⌜ (used + k + 1 ≤ length (now output)) × (from + k ≤ length (now work)) × (k ≤ 1024) ⌝ }
     ensures { λ _. ⌜

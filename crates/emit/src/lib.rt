@@ -1,4 +1,4 @@
-// The group of a position, put out where the taken set qualifies and its record fits.
+// The group of a position: put out where all ranks are decided, the taken set qualifies and its entries fit.
 mod group;
 mod qualify;
 
@@ -11,7 +11,8 @@ use crate::qualify::qualifies;
 use isolation::Settings;
 use walk::State;
 
-// What became of a group: whether it did not fit; the output's used entries then, and the groups put out, 0 or 1; the entries wanted where it did not fit.
+// What became of a position's group: whether there is one that did not fit, how many entries of the output are used now, the groups put out, 0 or 1,
+// and the entries wanted where one did not fit.
 pub struct Put {
     pub full: bool,
     pub used: usize,
@@ -19,8 +20,9 @@ pub struct Put {
     pub wanted: usize,
 }
 
-// Puts the group of a position that the state and the work slice stand for right after the used entries of the output, where all ranks are decided, the
-// taken set qualifies and its size + 1 is no more than the unused entries; writes nothing of the output else.
+// Puts the group of the position that the state and the work slice stand for right after the used entries of the output, where there is one and it fits;
+// else writes nothing of the output.
+// Document 01, "A page", point 3: a group whose size + 1 exceeds the unused entries is not written, and so many are wanted; point 4: else it is.
 pub fn emit(
     s: State,
     q: Settings,

@@ -1,4 +1,5 @@
-// Whether the taken set of a position qualifies.
+// Whether the taken set of a position qualifies, from what the walk's state keeps: no set is built and no vertex outside it is looked at but the left
+// neighbours of the pivot.
 ghost use mathlib.Core.Path.{_≡_};
 ghost use Rattle.emit.specs.Qualify.{Sifts, Sifted, readTally, TallyFits, Asks, SaysQualifies};
 use isolation::Settings;
@@ -10,6 +11,7 @@ use walk::State;
 
 // Writes those of the left neighbours of the pivot, whose ranks are the first `left` entries of part 2 of work, that are joined to each taken vertex, the
 // first `taken` entries of part 1, into part 3, and says how many. Writes nothing else.
+// Document 002, section 2.2.3: a larger clique is a clique with common neighbours of its members added. With all ranks decided each of these is left.
 fn candidates(
     table: &[u8],
     ranks: &[u16],
@@ -25,6 +27,7 @@ fn candidates(
     let mut m: usize = 0;
     let mut j = 0;
     while j < left {
+        // the left rank at place j, and its vertex as an entry and as an index
         let r = work[2 * n + j] as usize;
         let x = ranks[r];
         let v = x as usize;
@@ -37,8 +40,9 @@ fn candidates(
     m
 }
 
-// The numbers of the taken set: their number and the sum of their degrees are kept in the state, the first taken vertex has the least degree and the last
+// The numbers of the taken set: how many and the sum of their degrees are kept in the state, the first taken vertex has the least degree and the last
 // the largest. Reads two entries of work and two of ranks.
+// Document 002, section 2.2: vertices are in order of degree, and the pivot of a set is the lowest of it.
 fn numbers(s: State, ranks: &[u16], work: &[u16], n: usize) -> Tally
     requires { ⌜ TallyFits n (now ranks) (now work) s ⌝ }
     ensures { λ r. ⌜ r ≡ readTally n (now (ranks .entry)) (now (work .entry)) s ⌝ }
@@ -57,8 +61,11 @@ fn numbers(s: State, ranks: &[u16], work: &[u16], n: usize) -> Tally
     }
 }
 
-// Whether all ranks are decided and the taken set qualifies, of a position that the state and the work slice stand for. Writes part 3 of work, and part 1
+// Whether all ranks are decided and the taken set qualifies, of the position that the state and the work slice stand for. Writes part 3 of work, and part 1
 // past the taken vertices.
+// The notions are document 002's, section 2.1; kind 0 is its definition 2 (maximal isolated) and kind 1 its definition 1 (isolated maximal).
+// A larger set is searched for, not screened by degree as in document 000, section 3.2: that test is one vertex too generous, and in a star with three
+// leaves at factor 2 it discards all three groups (document 01, "Where the papers tempt").
 pub fn qualifies(
     s: State,
     q: Settings,

@@ -10,7 +10,7 @@ use lib.Dec.{ltb, eqb}
 use borrow.Author.Tests.{ltb-false, eqb-true, not-false}
 use Rattle.model.specs.Groups.{Settings}
 use Rattle.model.specs.Calls.{refuse, over, refuseTable, refuseSettings, refuseLengths, refuseQuery}
-use Rattle.theory.proofs.basics.Gates.{Gate, gate-one, gate-then, gate-passed}
+use Rattle.theory.proofs.basics.Gates.{Gate, gate-one, gate-then, open-gate, shut, gate-passed}
 use Rattle.theory.proofs.basics.Tests.{or-second}
 use Rattle.theory.proofs.calls.PageAccepted.{refuse-pass}
 use Rattle.isolation.specs.declared.Settings as query
@@ -48,18 +48,18 @@ module _ (n : ℕ) (t : List ℕ) (s : Settings) (bs : List ℕ) (work : ℕ) wh
   -- the refusal number, where the table has a fault, where the settings have one, and by the outcome of the later tests
   pub query-table : {r : ℕ} → r ≡ refuseTable n t 0 → r ≢ 0 → r ≡ refuseQuery n t s bs work
   unfolding refuseQuery
-  query-table e d = e ∙ sym (table-gate n t .shut (λ q. d (e ∙ q)) (refuseSettings s lengths))
+  query-table e d = e ∙ sym (shut _ (table-gate n t) (λ q. d (e ∙ q)) (refuseSettings s lengths))
 
   module _ (table : refuseTable n t 0 ≡ 0) where
     pub query-settings : {r : ℕ} → r ≡ refuseSettings s 0 → r ≢ 0 → r ≡ refuseQuery n t s bs work
     unfolding refuseQuery
-    query-settings e d = e ∙ sym (table-gate n t .open-gate table (refuseSettings s lengths) ∙ settings-gate s .shut (λ q. d (e ∙ q)) lengths)
+    query-settings e d = e ∙ sym (open-gate _ (table-gate n t) table (refuseSettings s lengths) ∙ shut _ (settings-gate s) (λ q. d (e ∙ q)) lengths)
 
     pub query-lengths : refuseSettings s 0 ≡ 0 → {a b d : Bool} → not (eqb (length bs) n) ≡ a → ltb work (8 * n) ≡ b → over 1 bs ≡ d
         → refuse 9 a (refuse 10 b (refuse 11 d 0)) ≡ refuseQuery n t s bs work
     unfolding refuseQuery refuseLengths
     query-lengths settings p q r =
-        sym (table-gate n t .open-gate table (refuseSettings s lengths) ∙ settings-gate s .open-gate settings lengths ∙ rw (p, q, r))
+        sym (open-gate _ (table-gate n t) table (refuseSettings s lengths) ∙ open-gate _ (settings-gate s) settings lengths ∙ rw (p, q, r))
 
 -- what an accepted set query has
 pub record QueryAccepted (n : ℕ) (t : List ℕ) (s : query.Settings) (bs w : List ℕ) : Type 0 where

@@ -1,5 +1,5 @@
 -- Laws.
-pub mod Refusing
-pub mod Running
-pub mod Turns
-pub mod Calling
+pub mod Refusals
+pub mod Turn
+pub mod Round
+pub mod Call

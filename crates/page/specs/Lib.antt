@@ -1,5 +1,4 @@
 -- Specs.
 pub mod Answer
 pub mod Call
-pub mod Round
 pub mod Turn

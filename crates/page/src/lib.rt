@@ -1,4 +1,4 @@
-// The page call: the walk in steps, its groups into the output.
+// The page call: what it is handed is tested, and then the walk goes on from the position it holds, with its groups put into the output.
 mod rounds;
 
 ghost use mathlib.Core.Path.{_≡_};
@@ -16,14 +16,15 @@ use isolation::settings_refusal;
 use position::position_refusal;
 use walk::rebuild;
 
-// Why a page stopped.
+// Why a page stopped: document 01, "A page", points 1 to 3.
 pub enum Stop {
     Finished,
     Spent,
     Full,
 }
 
-// The answer of a page call: its refusal number, 0 where it is accepted, and what it did; a refused call has 0 in all other fields.
+// The answer of a page call: its refusal number, 0 where it is accepted, and what it did.
+// Document 01, "A page": the answer holds refusal number 0, the stop, groups, entries used, steps, and the entries wanted (size + 1 at Full, else 0).
 #[repr(C)]
 pub struct PageAnswer {
     pub refusal: u32,
@@ -34,7 +35,7 @@ pub struct PageAnswer {
     pub wanted: usize,
 }
 
-// The number of a stop.
+// The number of a stop: document 01, "A page", has Finished (1), Spent (2), Full (3).
 fn stop_number(s: Stop) -> u32
     ensures { λ r. ⌜ r ≡ stopNumber s ⌝ }
 {
@@ -45,7 +46,7 @@ fn stop_number(s: Stop) -> u32
     }
 }
 
-// The answer of a refused call.
+// The answer of a refused call: document 01, "Turned back by the input": all other numbers in the answer are 0.
 fn turned_back(number: u32) -> PageAnswer
     ensures { λ r. ⌜ r ≡ refused number ⌝ }
 {
@@ -59,7 +60,8 @@ fn turned_back(number: u32) -> PageAnswer
     }
 }
 
-// The refusal number of what a call brings, before its position is looked into: 1 to 10, and 0 where all these tests pass. Reads the table.
+// The refusal number of what a call brings, before its position is looked into, and 0 where all these tests pass. Reads the table.
+// Document 01, "Turned back by the input": 1 to 5 of the table, 6 to 8 of the settings, 9 and 10 of two lengths, lowest number first.
 fn input_refusal(table: &[u8], n: usize, q: Settings, position: &[u8], work: &[u16]) -> u32
     ensures { λ r. ⌜
         r ≡ refuseTable n (now (table .entry)) (refuseSettings (settingsOf q) (refuseLengths n (now (position .entry)) (length (now (work .entry))) 0))
@@ -84,6 +86,7 @@ fn input_refusal(table: &[u8], n: usize, q: Settings, position: &[u8], work: &[u
 
 // The page call, of any arguments. A refused call leaves the position, the output and the work slice as they were; an accepted one walks on from the
 // position, at most as many steps as the budget has, and puts the groups that it passes into the output.
+// Document 01, "Turned back by the state": 21 to 23 are tested after 1 to 10, so the work slice is not written before all of them have passed.
 pub fn page(
     table: &[u8],
     position: &mut [u8],

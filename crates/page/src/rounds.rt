@@ -1,12 +1,13 @@
 // The rounds of a page: the loop that writes groups and makes steps until the walk is finished, the budget is spent or the output is full.
+ghost use Prim.Native.Nat.{_≤_};
 ghost use lib.ListN.{length};
 ghost use Rattle.model.specs.Graph.{byTable};
 ghost use Rattle.model.specs.Walk.{page};
 ghost use Rattle.model.specs.Listing.{rules};
 ghost use Rattle.model.specs.Calls.{replyOf};
 ghost use Rattle.isolation.specs.Numbers.{settingsOf};
+ghost use Rattle.walk.specs.Walk.{Walking};
 ghost use Rattle.page.specs.Answer.{PageReplies};
-ghost use Rattle.page.specs.Round.{PageBegins};
 use crate::PageAnswer;
 use crate::Stop;
 use crate::stop_number;
@@ -16,7 +17,8 @@ use walk::State;
 use walk::finished;
 use walk::step;
 
-// A page from the position that the state and the work slice stand for, accepted by all tests: one step a round, in this order, until a round stops.
+// A page from the position that the state and the work slice stand for, accepted by all tests: rounds of one step each, until one stops.
+// Document 01, "A page", points 1 to 5 in this order: finished, spent, full, the group is put out, one step.
 pub fn run(
     table: &[u8],
     ranks: &[u16],
@@ -28,7 +30,7 @@ pub fn run(
     first: State,
     budget: u32,
 ) -> PageAnswer
-    requires { ⌜ PageBegins n (now table) (now ranks) (now position) (now work) q first ⌝ }
+    requires { ⌜ Walking n (q .factor) (now table) (now ranks) (now position) (now work) first × (q .factor ≤ 1024) ⌝ }
     ensures { λ r. ⌜
         PageReplies r (now (position .exit)) (now (output .exit))
         (replyOf 0 (page (rules (byTable n (now (table .entry))) (settingsOf q)) budget (length (now (output .entry))) (now (position .entry)))

@@ -3,42 +3,48 @@
 use mathlib.Core.Path.{sym, _∙_}
 use native.Mathlib.Omega.{arith}
 use Rattle.graph.proofs.Refusals.{table-accepted}
-use Rattle.page.proofs.Refusing.{by-table, by-settings, by-position, by-work, by-none}
+use Rattle.page.proofs.Refusals.{by-table, by-settings, by-position, by-work, by-none}
 use borrow.Author.Needs.{needs}
 use Rattle.page.proofs.input_refusal.Statement.{statement}
 use Rattle.page.proofs.input_refusal.Tie as tie
 
-table-refusal-requires : tie.Need-table-refusal-requires
-table-refusal-requires c κs = search needs
-
 returns : tie.Need-returns
 returns c = by-table _ _ _ _ _ (c .before .table-refusal .ensures) (c .if1 .taken)
 
-settings-refusal-requires : tie.Need-settings-refusal-requires
-settings-refusal-requires c κs = search needs
-
 returns-2 : tie.Need-returns-2
-returns-2 c = by-settings _ _ _ _ _ (sym (c .before .before .before .table-refusal .ensures) ∙ c .before .before .if1 .left) (c .before .settings-refusal .ensures) (c .if2 .taken)
+returns-2 c =
+    let t = c .before .before in
+    by-settings _ _ _ _ _ (t .before .table-refusal .ensures) (t .if1 .left) (c .before .settings-refusal .ensures) (c .if2 .taken)
 
 returns-3 : tie.Need-returns-3
-returns-3 c = by-position _ _ _ _ _ (sym (c .before .before .before .before .table-refusal .ensures) ∙ c .before .before .before .if1 .left) (sym (c .before .before .settings-refusal .ensures) ∙ c .before .if2 .left) (c .if3 .taken)
+returns-3 c =
+    let t = c .before .before .before in
+    by-position _ _ _ _ _ (t .before .table-refusal .ensures) (t .if1 .left) (c .before .before .settings-refusal .ensures) (c .before .if2 .left) (c .if3 .taken)
 
 mul-if4 : tie.Need-mul-if4
-mul-if4 c = let s = table-accepted (c .before .before .before .before .before .before .before .before .args .n) (c .before .before .before .before .before .before .before .before .args .table .now) (sym (c .before .before .before .before .table-refusal .ensures) ∙ c .before .before .before .if1 .left) .fits .small in omega arith
+mul-if4 c = let t = c .before .before .before in let s = table-accepted _ _ (sym (t .before .table-refusal .ensures) ∙ t .if1 .left) .fits .small in omega arith
 
 returns-4 : tie.Need-returns-4
-returns-4 c = by-work _ _ _ _ _ (sym (c .before .before .before .before .before .table-refusal .ensures) ∙ c .before .before .before .before .if1 .left) (sym (c .before .before .before .settings-refusal .ensures) ∙ c .before .before .if2 .left) (c .before .if3 .left) (omega (arith, c .if4 .taken))
+returns-4 c =
+    let p = c .before in
+    let t = p .before .before .before in
+    by-work _ _ _ _ _ (t .before .table-refusal .ensures) (t .if1 .left) (p .before .before .settings-refusal .ensures) (p .before .if2 .left) (p .if3 .left)
+    (omega (arith, c .if4 .taken))
 
 returns-5 : tie.Need-returns-5
-returns-5 c = by-none _ _ _ _ _ (sym (c .before .before .before .before .before .table-refusal .ensures) ∙ c .before .before .before .before .if1 .left) (sym (c .before .before .before .settings-refusal .ensures) ∙ c .before .before .if2 .left) (c .before .if3 .left) (omega (arith, c .if4 .left))
+returns-5 c =
+    let p = c .before in
+    let t = p .before .before .before in
+    by-none _ _ _ _ _ (t .before .table-refusal .ensures) (t .if1 .left) (p .before .before .settings-refusal .ensures) (p .before .if2 .left) (p .if3 .left)
+    (omega (arith, c .if4 .left))
 
 pub input-refusal-spec : {M : Type 1} → statement M
 input-refusal-spec =
     tie.close
     (tie.spec
-    table-refusal-requires
+    (λ c κs. search needs)
     returns
-    settings-refusal-requires
+    (λ c κs. search needs)
     returns-2
     returns-3
     mul-if4

@@ -1,107 +1,91 @@
 -- `page::page` meets its contract, way by way: refused by its input, refused by its position, accepted.
 -- Assumes nothing.
-use mathlib.Core.Path.{refl, sym, _∙_}
+use mathlib.Core.Path.{refl, _∙_}
+use native.Mathlib.Omega.{arith}
 use Rattle.model.specs.Groups.{settings}
-use Rattle.page.proofs.Refusing.{refused-input, refused-position}
-use Rattle.page.proofs.Calling.{passed, position-passes, ranks-fit, ranked, called-refused, called-accepted, begins}
+use Rattle.page.proofs.Refusals.{refused-input, refused-position, passed, position-passes}
+use Rattle.page.proofs.Call.{ranks-fit, ranked, called-refused, called-accepted, begins}
 use borrow.Author.Needs.{needs}
 use Rattle.page.proofs.page.Statement.{statement}
 use Rattle.page.proofs.page.Tie as tie
 
-input-refusal-requires : tie.Need-input-refusal-requires
-input-refusal-requires c κs = tt
-
-turned-back-requires : tie.Need-turned-back-requires
-turned-back-requires c κs = tt
-
-same-length : tie.Need-same-length
-same-length c = refl
-
-same-length-2 : tie.Need-same-length-2
-same-length-2 c = refl
-
 returns : tie.Need-returns
-returns c = called-refused _ _ _ _ _ _ _ (refused-input _ _ _ _ _ (c .before .before .input-refusal .ensures) (c .before .if1 .taken)) (c .before .if1 .taken) _ (c .turned-back .ensures)
-
-slice-aggregate-prepare : tie.Need-slice-aggregate-prepare
-slice-aggregate-prepare c = refl
+returns c =
+    let i = c .before in
+    called-refused _ _ _ _ _ _ _ (refused-input _ _ _ _ _ (i .before .input-refusal .ensures) (i .if1 .taken)) (i .if1 .taken) (c .turned-back .ensures)
 
 prepare-requires : tie.Need-prepare-requires
-prepare-requires c κs = let h = passed _ _ _ _ _ (sym (c .before .before .input-refusal .ensures) ∙ c .before .if1 .left) in
+prepare-requires c κs =
+    let i = c .before in
+    let h = passed _ _ _ _ _ (i .before .input-refusal .ensures) (i .if1 .left) in
     (h .fits, ranks-fit (h .fits) _ refl)
 
-slice-aggregate-position-refusal : tie.Need-slice-aggregate-position-refusal
-slice-aggregate-position-refusal c = search needs
-
 position-refusal-requires : tie.Need-position-refusal-requires
-position-refusal-requires c κs = let h = passed _ _ _ _ _ (sym (c .before .before .before .before .before .before .input-refusal .ensures) ∙ c .before .before .before .before .before .if1 .left) in
-    (ranked (h .fits) _ refl (c .before .before .before .prepare .ensures), h .long)
-
-turned-back-requires-2 : tie.Need-turned-back-requires-2
-turned-back-requires-2 c κs = tt
-
-same-length-3 : tie.Need-same-length-3
-same-length-3 c = refl
-
-same-length-4 : tie.Need-same-length-4
-same-length-4 c = refl
+position-refusal-requires c κs =
+    let r = c .before .before .before in
+    let i = r .before .before in
+    let h = passed _ _ _ _ _ (i .before .input-refusal .ensures) (i .if1 .left) in
+    (ranked (h .fits) _ refl (r .prepare .ensures), h .long)
 
 returns-2 : tie.Need-returns-2
-returns-2 c = called-refused _ _ _ _ _ _ _
-    (refused-position _ _ _ _ _ (sym (c .before .before .before .before .before .before .before .before .before .input-refusal .ensures) ∙ c .before .before .before .before .before .before .before .before .if1 .left) (c .before .before .position-refusal .ensures _ refl))
-    (c .before .if2 .taken) _ (c .turned-back2 .ensures)
-
-slice-aggregate-rebuild : tie.Need-slice-aggregate-rebuild
-slice-aggregate-rebuild c = search needs
+returns-2 c =
+    let d = c .before .before in
+    let i = d .before .before .before .before .before .before in
+    called-refused _ _ _ _ _ _ _
+    (refused-position _ _ _ _ _ (i .before .input-refusal .ensures) (i .if1 .left) (d .position-refusal .ensures _ refl))
+    (λ z. omega (arith, c .before .if2 .taken)) (c .turned-back2 .ensures)
 
 rebuild-requires : tie.Need-rebuild-requires
-rebuild-requires c κs = let h = passed _ _ _ _ _ (sym (c .before .before .before .before .before .before .before .before .before .before .before .input-refusal .ensures) ∙ c .before .before .before .before .before .before .before .before .before .before .if1 .left) in
-    let g = position-passes _ _ _ _ (sym (c .before .before .before .before .position-refusal .ensures (settings (c .before .before .before .before .before .before .before .before .before .before .before .before .before .before .before .before .before .before .args .notion) (c .before .before .before .before .before .before .before .before .before .before .before .before .before .before .before .before .before .before .args .kind) (c .before .before .before .before .before .before .before .before .before .before .before .before .before .before .before .before .before .before .args .c)) refl) ∙ c .before .before .before .if2 .left) in
-    (ranked (h .fits) _ refl (c .before .before .before .before .before .before .before .before .prepare .ensures), h .long, h .enough, g .0, g .1)
-
-slice-aggregate-run : tie.Need-slice-aggregate-run
-slice-aggregate-run c = search needs
+rebuild-requires c κs =
+    let d = c .before .before .before .before in
+    let r = d .before .before .before .before in
+    let i = r .before .before in
+    let a = i .before .before .before .before .before .before .before .before .args in
+    let h = passed _ _ _ _ _ (i .before .input-refusal .ensures) (i .if1 .left) in
+    let g = position-passes _ _ _ _ (d .position-refusal .ensures (settings (a .notion) (a .kind) (a .c)) refl) (omega (arith, c .before .before .before .if2 .left)) in
+    (ranked (h .fits) _ refl (r .prepare .ensures), h .long, h .enough, g .0, g .1)
 
 run-requires : tie.Need-run-requires
-run-requires c κs = let h = passed _ _ _ _ _ (sym (c .before .before .before .before .before .before .before .before .before .before .before .before .before .before .before .before .before .before .input-refusal .ensures) ∙ c .before .before .before .before .before .before .before .before .before .before .before .before .before .before .before .before .before .if1 .left) in
-    begins _ _ _ _ _ _ _ _ h (ranked (h .fits) _ refl (c .before .before .before .before .before .before .before .before .before .before .before .before .before .before .before .prepare .ensures)) (λ x e. sym (c .before .before .before .before .before .before .before .before .before .before .if2 .left) ∙ c .before .before .before .before .before .before .before .before .before .before .before .position-refusal .ensures x e) (c .before .before .before .before .before .before .rebuild .ensures)
-
-same-length-5 : tie.Need-same-length-5
-same-length-5 c = search needs
-
-same-length-6 : tie.Need-same-length-6
-same-length-6 c = search needs
-
-same-length-7 : tie.Need-same-length-7
-same-length-7 c = search needs
+run-requires c κs =
+    let w = c .before .before .before .before .before .before in
+    let d = w .before .before .before .before .before in
+    let r = d .before .before .before .before in
+    let i = r .before .before in
+    let h = passed _ _ _ _ _ (i .before .input-refusal .ensures) (i .if1 .left) in
+    begins h (ranked (h .fits) _ refl (r .prepare .ensures)) (d .position-refusal .ensures) (w .before .before .before .before .if2 .left) (w .rebuild .ensures)
 
 returns-3 : tie.Need-returns-3
-returns-3 c = called-accepted _ _ _ _ _ _ _
-    (refused-position _ _ _ _ _ (sym (c .before .before .before .before .before .before .before .before .before .before .before .before .before .before .before .before .before .before .before .before .before .before .before .before .before .input-refusal .ensures) ∙ c .before .before .before .before .before .before .before .before .before .before .before .before .before .before .before .before .before .before .before .before .before .before .before .before .if1 .left) (sym (c .before .before .before .before .before .before .before .before .before .before .before .before .before .before .before .before .before .if2 .left) ∙ c .before .before .before .before .before .before .before .before .before .before .before .before .before .before .before .before .before .before .position-refusal .ensures _ refl))
-    _ _ _ _ (c .before .before .before .before .before .before .run .ensures) (c .before .before .before .before .before .before .run .kept .1 .1 .1 .1 .0 ∙ c .before .before .before .before .before .before .before .before .before .before .before .before .before .rebuild .kept .1 .1 .1 .1 .0)
+returns-3 c =
+    let u = c .before .before .before .before .before .before in
+    let w = u .before .before .before .before .before .before .before in
+    let d = w .before .before .before .before .before in
+    let i = d .before .before .before .before .before .before in
+    called-accepted _ _ _ _ _ _ _
+    (refused-position _ _ _ _ _ (i .before .input-refusal .ensures) (i .if1 .left) (d .position-refusal .ensures _ refl)) (w .before .before .before .before .if2 .left)
+    (u .run .ensures) (u .run .kept .1 .1 .1 .1 .0 ∙ w .rebuild .kept .1 .1 .1 .1 .0)
 
 pub page-spec : {M : Type 1} → statement M
 page-spec =
     tie.close
     (tie.spec
-    input-refusal-requires
-    turned-back-requires
-    same-length
-    same-length-2
+    (λ c κs. tt)
+    (λ c κs. tt)
+    (λ c. refl)
+    (λ c. refl)
     returns
-    slice-aggregate-prepare
+    (λ c. refl)
     prepare-requires
-    slice-aggregate-position-refusal
+    (λ c. search needs)
     position-refusal-requires
-    turned-back-requires-2
-    same-length-3
-    same-length-4
+    (λ c κs. tt)
+    (λ c. refl)
+    (λ c. refl)
     returns-2
-    slice-aggregate-rebuild
+    (λ c. search needs)
     rebuild-requires
-    slice-aggregate-run
+    (λ c. search needs)
     run-requires
-    same-length-5
-    same-length-6
-    same-length-7
+    (λ c. search needs)
+    (λ c. search needs)
+    (λ c. search needs)
     returns-3)

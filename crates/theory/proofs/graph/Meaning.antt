@@ -120,9 +120,9 @@ someSet-there (suc n) P e = go (someSet n (λ S. P (with-vertex n S))) refl e
 or-left : {a : Bool} (b : Bool) → a ≡ true → (a || b) ≡ true
 or-left b e = ap (λ (a : Bool). a || b) e
 
-or-right : (a : Bool) {b : Bool} → b ≡ true → (a || b) ≡ true
-or-right true e = refl
-or-right false e = e
+or-second : (a : Bool) {b : Bool} → b ≡ true → (a || b) ≡ true
+or-second true e = refl
+or-second false e = e
 
 someSet-back : (n : ℕ) (P : VertexSet → Bool) (L : VertexSet) → P (cut n L) ≡ true → someSet n P ≡ true
 unfolding someSet
@@ -134,7 +134,7 @@ someSet-back (suc n) P L e = go (L n) refl (someSet-back n (λ S. P (with-vertex
         → (P (cut n L) ≡ true → someSet n P ≡ true)
         → (someSet n (λ S. P (with-vertex n S)) || someSet n P) ≡ true
     go true q f g = or-left (someSet n P) (f (ap P (sym (fun-ext (cut-with n L q))) ∙ e))
-    go false q f g = or-right (someSet n (λ S. P (with-vertex n S))) (g (ap P (sym (fun-ext (cut-without n L q))) ∙ e))
+    go false q f g = or-second (someSet n (λ S. P (with-vertex n S))) (g (ap P (sym (fun-ext (cut-without n L q))) ∙ e))
 
 -- two sets that agree on the vertices are the same to every notion
 module _ (G : Graph) (L M : VertexSet) (same : (v : ℕ) → v < G .size → M v ≡ L v) where

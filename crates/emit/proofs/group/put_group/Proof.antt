@@ -1,4 +1,4 @@
--- `page::group::put_group` meets its contract: the unused part of the output, lent from its middle, comes back with the group at its start.
+-- `emit::group::put_group` meets its contract: the unused part of the output, lent from its middle, comes back with the group at its start.
 -- Assumes nothing.
 use Prim.Native.Nat.{_+_}
 use mathlib.Core.Path.{_≡_, _∙_}
@@ -9,24 +9,6 @@ use Rattle.emit.proofs.Groups.{tail-at}
 use borrow.Author.Needs.{needs}
 use Rattle.emit.proofs.group.put_group.Statement.{statement}
 use Rattle.emit.proofs.group.put_group.Tie as tie
-
-mul-write-group : tie.Need-mul-write-group
-mul-write-group c = search needs
-
-sub-write-group : tie.Need-sub-write-group
-sub-write-group c = search needs
-
-part-write-group-start : tie.Need-part-write-group-start
-part-write-group-start c = search needs
-
-part-write-group-end : tie.Need-part-write-group-end
-part-write-group-end c = search needs
-
-write-group-requires : tie.Need-write-group-requires
-write-group-requires c κs = search needs
-
-same-length : tie.Need-same-length
-same-length c = search needs
 
 returns : tie.Need-returns
 returns c =
@@ -41,10 +23,10 @@ pub put-group-spec : {M : Type 1} → statement M
 put-group-spec =
     tie.close
     (tie.spec
-    mul-write-group
-    sub-write-group
-    part-write-group-start
-    part-write-group-end
-    write-group-requires
-    same-length
+    (λ c. search needs)
+    (λ c. search needs)
+    (λ c. search needs)
+    (λ c. search needs)
+    (λ c κs. search needs)
+    (λ c. search needs)
     returns)

@@ -1,4 +1,4 @@
--- `page::group::write_group` meets its contract: after i vertices the slice holds the size and the first i of them.
+-- `emit::group::write_group` meets its contract: after i vertices the slice holds the size and the first i of them.
 -- Assumes nothing.
 use Prim.Native.Nat.{ℕ, _+_, _-_, _≤_}
 use mathlib.Core.Path.{_≡_, refl, sym, ap, _∙_}
@@ -20,40 +20,13 @@ Inv-loop out₀ work from k i₀ out i = (out ≡ paste out₀ 1 (part work from
 abbrev μ-loop : tie.MeasureT-loop
 μ-loop out₀ work from k i₀ out i = k - i
 
-size-entry-requires : tie.Need-size-entry-requires Inv-loop μ-loop
-size-entry-requires c κs = search needs
-
-slice-write-out : tie.Need-slice-write-out Inv-loop μ-loop
-slice-write-out c = search needs
-
 loop-holds : tie.Need-loop-holds Inv-loop μ-loop
 loop-holds c =
     let a = c .before .before .before .args in
     (paste-zero (set (a .out .now) 0 (c .size-entry .result)) 1 (part (a .work .now) (a .from) (a .k)), omega arith, refl)
 
-add-out : tie.Need-add-out Inv-loop μ-loop
-add-out c = search needs
-
-mul-out : tie.Need-mul-out Inv-loop μ-loop
-mul-out c = search needs
-
-shared-slice-read-out : tie.Need-shared-slice-read-out Inv-loop μ-loop
-shared-slice-read-out c = search needs
-
-add-out-2 : tie.Need-add-out-2 Inv-loop μ-loop
-add-out-2 c = search needs
-
-mul-out-2 : tie.Need-mul-out-2 Inv-loop μ-loop
-mul-out-2 c = search needs
-
 slice-write-out-2 : tie.Need-slice-write-out-2 Inv-loop μ-loop
 slice-write-out-2 c = omega (arith, simp length-set at (c .before .before .loop .inv .2))
-
-add-i : tie.Need-add-i Inv-loop μ-loop
-add-i c = search needs
-
-loop-less : tie.Need-loop-less Inv-loop μ-loop
-loop-less c = search needs
 
 loop-again : tie.Need-loop-again Inv-loop μ-loop
 loop-again c =
@@ -90,17 +63,17 @@ write-group-spec =
     (tie.spec
     Inv-loop
     μ-loop
-    size-entry-requires
-    slice-write-out
+    (λ c κs. search needs)
+    (λ c. search needs)
     loop-holds
-    add-out
-    mul-out
-    shared-slice-read-out
-    add-out-2
-    mul-out-2
+    (λ c. search needs)
+    (λ c. search needs)
+    (λ c. search needs)
+    (λ c. search needs)
+    (λ c. search needs)
     slice-write-out-2
-    add-i
-    loop-less
+    (λ c. search needs)
+    (λ c. search needs)
     loop-again
     same-length
     returns)

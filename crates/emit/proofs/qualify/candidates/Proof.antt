@@ -1,106 +1,77 @@
--- `page::qualify::candidates` meets its contract: the left neighbours of the pivot are looked through, one after the other.
+-- `emit::qualify::candidates` meets its contract: the left neighbours of the pivot are looked through, one after the other.
 -- Assumes nothing.
 use mathlib.Core.Path.{sym, _∙_}
 use mathlib.Core.Logic.{⊎-elim}
-use native.Mathlib.Nat.{add-sub-cancel-left}
 use native.Mathlib.Omega.{arith}
-use Prim.Native.Nat.{_-_}
+use Prim.Native.Nat.{_+_, _-_, _*_, _≤_}
 use borrow.Author.Needs.{needs}
-use Rattle.emit.proofs.Sifting.{Sifting, sifting-same, sifting-start, sifting-hit, sifting-miss, sifting-end, rank-small, vertex-small, members-vertices}
+use Rattle.theory.specs.Parts.{Listed}
+use Rattle.theory.proofs.basics.Parts.{listed-same}
+use Rattle.emit.proofs.Candidates.{sifted, sifted-none, sifted-hit, sifted-miss, sifted-all, rank-small, vertex-small, members-vertices}
 use Rattle.emit.proofs.qualify.candidates.Statement.{statement}
 use Rattle.emit.proofs.qualify.candidates.Tie as tie
 
 abbrev Inv-loop : tie.InvT-loop
-Inv-loop table ranks work₀ n taken left end m₀ j₀ work m j = Sifting n table work₀ taken left work m j
+Inv-loop table ranks work₀ n taken left end m₀ j₀ work m j =
+    (m ≤ j) × (j ≤ left) × Listed (3 * n) (3 * n + n) (sifted n table work₀ taken left j) work₀ work m
 
 abbrev μ-loop : tie.MeasureT-loop
 μ-loop table ranks work₀ n taken left end m₀ j₀ work m j = left - j
 
-add-end : tie.Need-add-end Inv-loop μ-loop
-add-end c = search needs
-
 loop-holds : tie.Need-loop-holds Inv-loop μ-loop
-loop-holds c = sifting-start (c .before .before .before .pre)
-
-mul-r : tie.Need-mul-r Inv-loop μ-loop
-mul-r c = search needs
-
-add-r : tie.Need-add-r Inv-loop μ-loop
-add-r c = search needs
-
-mul-r-2 : tie.Need-mul-r-2 Inv-loop μ-loop
-mul-r-2 c = search needs
-
-slice-read-r : tie.Need-slice-read-r Inv-loop μ-loop
-slice-read-r c = search needs
+loop-holds c = (omega arith, omega arith, sifted-none (c .before .before .before .pre))
 
 cast-r : tie.Need-cast-r Inv-loop μ-loop
-cast-r c = let l = rank-small (c .before .before .before .before .before .before .pre) (c .before .before .loop .inv) (c .before .loop-test .taken) in
-    let s = c .before .before .before .before .before .before .pre .ranked .fits .small in
-    omega arith
+cast-r c =
+    let l = c .before .before in
+    let p = l .before .before .before .before .pre in
+    omega (arith, p .ranked .fits .small, rank-small p (l .loop .inv .2) (c .before .loop-test .taken))
 
 mul-x : tie.Need-mul-x Inv-loop μ-loop
-mul-x c = let l = rank-small (c .before .before .before .before .before .before .pre) (c .before .before .loop .inv) (c .before .loop-test .taken) in
-    let s = c .before .before .before .before .before .before .pre .ranked .fits .small in
-    omega arith
+mul-x c =
+    let l = c .before .before in
+    let p = l .before .before .before .before .pre in
+    omega (arith, p .ranked .fits .small, rank-small p (l .loop .inv .2) (c .before .loop-test .taken))
 
 shared-slice-read-x : tie.Need-shared-slice-read-x Inv-loop μ-loop
-shared-slice-read-x c = let p = c .before .before .before .before .before .before .before .pre in
-    let l = rank-small p (c .before .before .before .loop .inv) (c .before .before .loop-test .taken) in
-    let r = p .ranked .room in
-    omega arith
+shared-slice-read-x c =
+    let l = c .before .before .before in
+    let p = l .before .before .before .before .pre in
+    omega (arith, p .ranked .room, rank-small p (l .loop .inv .2) (c .before .before .loop-test .taken))
 
 cast-v : tie.Need-cast-v Inv-loop μ-loop
-cast-v c = let p = c .before .before .before .before .before .before .before .pre in
-    let l = vertex-small p (c .before .before .before .loop .inv) (c .before .before .loop-test .taken) in
-    let s = p .ranked .fits .small in
-    omega arith
+cast-v c =
+    let l = c .before .before .before in
+    let p = l .before .before .before .before .pre in
+    omega (arith, p .ranked .fits .small, vertex-small p (l .loop .inv .2) (c .before .before .loop-test .taken))
 
 joined-to-all-requires : tie.Need-joined-to-all-requires Inv-loop μ-loop
-joined-to-all-requires c κs = let p = c .before .before .before .before .before .before .before .before .pre in
-    let v = c .before .before .before .before .loop .inv in
-    let h = c .before .before .before .loop-test .taken in
+joined-to-all-requires c κs =
+    let l = c .before .before .before .before in
+    let p = l .before .before .before .before .pre in
+    let v = l .loop .inv .2 in
     let k = p .few-taken in
     let r = p .room in
     let e = v .kept .length-kept in
-    (p .ranked .fits, vertex-small p v h, omega arith, omega arith, λ i l. members-vertices p v i (omega arith))
-
-mul-work : tie.Need-mul-work Inv-loop μ-loop
-mul-work c = search needs
-
-add-work : tie.Need-add-work Inv-loop μ-loop
-add-work c = search needs
-
-mul-work-2 : tie.Need-mul-work-2 Inv-loop μ-loop
-mul-work-2 c = search needs
-
-slice-write-work : tie.Need-slice-write-work Inv-loop μ-loop
-slice-write-work c = search needs
-
-add-m : tie.Need-add-m Inv-loop μ-loop
-add-m c = search needs
-
-add-j : tie.Need-add-j Inv-loop μ-loop
-add-j c = search needs
-
-loop-less : tie.Need-loop-less Inv-loop μ-loop
-loop-less c = search needs
+    (p .ranked .fits, vertex-small p v (c .before .before .before .loop-test .taken), omega arith, omega arith, λ i h. members-vertices p (v .kept) i (omega arith))
 
 loop-again : tie.Need-loop-again Inv-loop μ-loop
-loop-again c = let p = c .before .before .before .before .before .before .before .before .before .before .pre in
-    let v = c .before .before .before .before .before .before .loop .inv in
+loop-again c =
+    let l = c .before .before .before .before .before .before in
+    let p = l .before .before .before .before .pre in
+    let v = l .loop .inv in
     let h = c .before .before .before .before .before .loop-test .taken in
     let e = c .before .joined-to-all .ensures in
     ⊎-elim
-    (λ w. sifting-same (w .1) (w .2) (sifting-hit p v h (sym (rw add-sub-cancel-left at e) ∙ w .0 .taken)))
-    (λ w. sifting-same (w .1) (w .2) (sifting-miss p v h (sym (rw add-sub-cancel-left at e) ∙ w .0 .left)))
+    (λ w. let m = w .2 in (omega arith, omega arith, listed-same (w .1) m (sifted-hit p (v .2) h (v .0) (sym (w .0 .taken) ∙ e))))
+    (λ w. let m = w .2 in (omega arith, omega arith, listed-same (w .1) m (sifted-miss p (v .2) h (sym (w .0 .left) ∙ e))))
     (c .if1 .came)
 
 same-length : tie.Need-same-length Inv-loop μ-loop
-same-length c = c .before .loop .inv .kept .length-kept
+same-length c = c .before .loop .inv .2 .kept .length-kept
 
 returns : tie.Need-returns Inv-loop μ-loop
-returns c = sifting-end (c .before .before .before .before .before .pre) (c .before .loop .inv) (c .loop-test .left)
+returns c = let v = c .before .loop .inv in sifted-all (c .before .before .before .before .before .pre) (v .2) (v .0) (v .1) (c .loop-test .left)
 
 pub candidates-spec : {M : Type 1} → statement M
 candidates-spec =
@@ -108,24 +79,24 @@ candidates-spec =
     (tie.spec
     Inv-loop
     μ-loop
-    add-end
+    (λ c. search needs)
     loop-holds
-    mul-r
-    add-r
-    mul-r-2
-    slice-read-r
+    (λ c. search needs)
+    (λ c. search needs)
+    (λ c. search needs)
+    (λ c. search needs)
     cast-r
     mul-x
     shared-slice-read-x
     cast-v
     joined-to-all-requires
-    mul-work
-    add-work
-    mul-work-2
-    slice-write-work
-    add-m
-    add-j
-    loop-less
+    (λ c. search needs)
+    (λ c. search needs)
+    (λ c. search needs)
+    (λ c. search needs)
+    (λ c. search needs)
+    (λ c. search needs)
+    (λ c. search needs)
     loop-again
     same-length
     returns)

@@ -1,62 +1,46 @@
--- `page::qualify::numbers` meets its contract: it reads what stands at the first and the last taken vertex.
+-- `emit::qualify::numbers` meets its contract: it reads what stands at the first and the last taken vertex.
 -- Assumes nothing.
 use Prim.Native.Nat.{_+_, _-_}
 use native.Mathlib.Omega.{arith}
 use lib.ListN.{getD}
 use borrow.Author.Needs.{needs}
-use Rattle.emit.proofs.Judging.{first-below, last-below}
+use Rattle.emit.proofs.Verdicts.{first-below, last-below}
 use Rattle.emit.proofs.qualify.numbers.Statement.{statement}
 use Rattle.emit.proofs.qualify.numbers.Tie as tie
-use Rattle.emit.proofs.qualify.numbers.Reads as reads
-
-mul-first : tie.Need-mul-first
-mul-first c = search needs
-
-shared-slice-read-first : tie.Need-shared-slice-read-first
-shared-slice-read-first c = search needs
 
 cast-first : tie.Need-cast-first
 cast-first c = omega (arith, c .shared-slice-known .given (c .before .args .n))
-
-sub-last : tie.Need-sub-last
-sub-last c = search needs
-
-add-last : tie.Need-add-last
-add-last c = search needs
-
-mul-last : tie.Need-mul-last
-mul-last c = search needs
-
-shared-slice-read-last : tie.Need-shared-slice-read-last
-shared-slice-read-last c = search needs
 
 cast-last : tie.Need-cast-last
 cast-last c = omega (arith, c .shared-slice-known2 .given (c .before .before .args .n + (c .before .before .args .s .taken - 1)))
 
 add-least : tie.Need-add-least
-add-least c = let l = first-below (c .before .before .pre) in let b = c .before .before .pre .small in omega arith
+add-least c = let p = c .before .before .pre in omega (arith, first-below p, p .small)
 
 mul-least : tie.Need-mul-least
-mul-least c = let l = first-below (c .before .before .pre) in let b = c .before .before .pre .small in omega arith
+mul-least c = let p = c .before .before .pre in omega (arith, first-below p, p .small)
 
 shared-slice-read-least : tie.Need-shared-slice-read-least
-shared-slice-read-least c = let l = first-below (c .before .before .before .pre) in let b = c .before .before .before .pre .ranks-fit in omega arith
+shared-slice-read-least c = let p = c .before .before .before .pre in omega (arith, first-below p, p .ranks-fit)
 
 cast-least : tie.Need-cast-least
-cast-least c = omega (arith, c .shared-slice-known3 .given (c .before .before .before .args .n + getD (c .before .before .before .args .work .now) (c .before .before .before .args .n) 0))
+cast-least c =
+    let a = c .before .before .before .args in
+    omega (arith, c .shared-slice-known3 .given (a .n + getD (a .work .now) (a .n) 0))
 
 add-largest : tie.Need-add-largest
-add-largest c = let l = last-below (c .before .before .before .pre) in let b = c .before .before .before .pre .small in omega arith
+add-largest c = let p = c .before .before .before .pre in omega (arith, last-below p, p .small)
 
 mul-largest : tie.Need-mul-largest
-mul-largest c = let l = last-below (c .before .before .before .pre) in let b = c .before .before .before .pre .small in omega arith
+mul-largest c = let p = c .before .before .before .pre in omega (arith, last-below p, p .small)
 
 shared-slice-read-largest : tie.Need-shared-slice-read-largest
-shared-slice-read-largest c = let l = last-below (c .before .before .before .before .pre) in let b = c .before .before .before .before .pre .ranks-fit in omega arith
+shared-slice-read-largest c = let p = c .before .before .before .before .pre in omega (arith, last-below p, p .ranks-fit)
 
 cast-largest : tie.Need-cast-largest
-cast-largest c = let b = c .before .before .before .before in
-    omega (arith, c .shared-slice-known4 .given (b .args .n + getD (b .args .work .now) (b .args .n + (b .args .s .taken - 1)) 0))
+cast-largest c =
+    let a = c .before .before .before .before .args in
+    omega (arith, c .shared-slice-known4 .given (a .n + getD (a .work .now) (a .n + (a .s .taken - 1)) 0))
 
 returns : tie.Need-returns
 returns c = search needs
@@ -65,13 +49,13 @@ pub numbers-spec : {M : Type 1} → statement M
 numbers-spec =
     tie.close
     (tie.spec
-    mul-first
-    shared-slice-read-first
+    (λ c. search needs)
+    (λ c. search needs)
     cast-first
-    sub-last
-    add-last
-    mul-last
-    shared-slice-read-last
+    (λ c. search needs)
+    (λ c. search needs)
+    (λ c. search needs)
+    (λ c. search needs)
     cast-last
     add-least
     mul-least

@@ -5,7 +5,8 @@ use mathlib.Core.Path.{ap, _∙_}
 use mathlib.Core.Logic.{⊎-elim}
 use native.Mathlib.Omega.{arith}
 use lib.ListN.{length}
-use Rattle.page.proofs.Running.{Running, within, running-start, output-long, says, asks, used-fits, still-walking, groups-within, running-on, reply-finished, reply-spent, reply-full}
+use Rattle.page.proofs.Turn.{turn-finished, turn-spent}
+use Rattle.page.proofs.Round.{Running, running-start, output-long, says, asks, more, still-walking, groups-within, running-on, reply-full}
 use Rattle.page.proofs.rounds.run.Statement.{statement}
 use Rattle.page.proofs.rounds.run.Tie as tie
 
@@ -18,72 +19,74 @@ abbrev μ-loop : tie.MeasureT-loop
     budget - steps
 
 cast-c : tie.Need-cast-c Inv-loop μ-loop
-cast-c c = let f = c .before .before .before .before .before .before .pre .factor in omega arith
+cast-c c = omega (arith, c .before .before .before .before .before .before .pre .1)
 
 loop-holds : tie.Need-loop-holds Inv-loop μ-loop
-loop-holds c = running-start (c .before .before .before .before .before .before .pre) _ _
-
-finished-requires : tie.Need-finished-requires Inv-loop μ-loop
-finished-requires c κs = tt
+loop-holds c = let p = c .before .before .before .before .before .before .pre in running-start (p .0) (p .1)
 
 emit-requires : tie.Need-emit-requires Inv-loop μ-loop
-emit-requires c κs = (asks (c .before .before .before .before .before .before .before .before .before .before .before .before .pre) _ _ (c .before .before .before .before .before .loop .inv), used-fits (c .before .before .before .before .before .before .before .before .before .before .before .before .pre) _ _ (c .before .before .before .before .before .loop .inv))
+emit-requires c κs = asks (c .before .before .before .before .before .loop .inv)
 
 add-groups : tie.Need-add-groups Inv-loop μ-loop
-add-groups c = let p = c .before .before .before .before .before .before .before .before .before .before .before .before .before .before .before .before .before .before .before .pre in
-    let r = c .before .before .before .before .before .before .before .before .before .before .before .before .loop .inv in
-    let l = within p _ _ r in
-    let g = groups-within p _ _ r (says p _ _ r (c .before .before .before .before .before .before .before .before .before .before .before .finished .ensures) ∙ c .before .before .before .before .before .before .before .before .before .before .if1 .left) (omega (arith, c .before .before .before .before .before .before .before .before .before .if2 .left)) (c .before .before .before .before .before .before .emit .ensures) (c .before .if3 .left) in
-    omega (arith, c .before .before .before .before .before .before .before .before .before .before .before .before .before .before .before .before .before .before .before .fits .budget)
+add-groups c =
+    let e = c .before .before .before .before .before .before in
+    let b = e .before .before .before in
+    let r = b .before .before .before in
+    let g = groups-within (r .loop .inv) (e .emit .ensures) (b .before .before .finished .ensures) (b .before .if1 .left) (λ z. omega (arith, b .if2 .left)) (c .before .if3 .left) in
+    omega (arith, r .before .before .before .before .before .before .before .fits .budget)
 
 step-requires : tie.Need-step-requires Inv-loop μ-loop
-step-requires c κs = let p = c .before .before .before .before .before .before .before .before .before .before .before .before .before .before .before .before .before .before .before .before .before .pre in
-    let r = c .before .before .before .before .before .before .before .before .before .before .before .before .before .before .loop .inv in
-    let l = within p _ _ r in
-    let u = says p _ _ r (c .before .before .before .before .before .before .before .before .before .before .before .before .before .finished .ensures) ∙ c .before .before .before .before .before .before .before .before .before .before .before .before .if1 .left in
-    (still-walking p _ _ r u (omega (arith, c .before .before .before .before .before .before .before .before .before .before .before .if2 .left)) (c .before .before .before .before .before .before .before .before .emit .ensures), u)
+step-requires c κs =
+    let e = c .before .before .before .before .before .before .before .before in
+    let b = e .before .before .before in
+    let r = b .before .before .before .loop .inv in
+    (still-walking r (e .emit .ensures), says r (b .before .before .finished .ensures) ∙ b .before .if1 .left)
 
 add-steps : tie.Need-add-steps Inv-loop μ-loop
-add-steps c = let l = within (c .before .before .before .before .before .before .before .before .before .before .before .before .before .before .before .before .before .before .before .before .before .before .before .before .before .before .pre) _ _ (c .before .before .before .before .before .before .before .before .before .before .before .before .before .before .before .before .before .before .before .loop .inv) in
-    omega (arith, c .before .before .before .before .before .before .before .before .before .before .before .before .before .before .before .before .if2 .left, c .before .before .before .before .before .before .before .before .before .before .before .before .before .before .before .before .before .before .before .before .before .before .before .before .before .before .fits .budget)
+add-steps c =
+    let b = c .before .before .before .before .before .before .before .before .before .before .before .before .before .before .before .before in
+    let m = more (b .before .before .before .loop .inv) (λ z. omega (arith, b .if2 .left)) in
+    omega (arith, b .before .before .before .before .before .before .before .before .before .before .fits .budget)
 
 loop-less : tie.Need-loop-less Inv-loop μ-loop
-loop-less c = let l = within (c .before .before .before .before .before .before .before .before .before .before .before .before .before .before .before .before .before .before .before .before .before .before .before .before .before .before .pre) _ _ (c .before .before .before .before .before .before .before .before .before .before .before .before .before .before .before .before .before .before .before .loop .inv) in
-    omega (arith, c .before .before .before .before .before .before .before .before .before .before .before .before .before .before .before .before .if2 .left)
+loop-less c =
+    let b = c .before .before .before .before .before .before .before .before .before .before .before .before .before .before .before .before in
+    let m = more (b .before .before .before .loop .inv) (λ z. omega (arith, b .if2 .left)) in
+    omega arith
 
 loop-again : tie.Need-loop-again Inv-loop μ-loop
-loop-again c = let p = c .before .before .before .before .before .before .before .before .before .before .before .before .before .before .before .before .before .before .before .before .before .before .before .before .before .before .pre in
-    let r = c .before .before .before .before .before .before .before .before .before .before .before .before .before .before .before .before .before .before .before .loop .inv in
-    let l = within p _ _ r in
-    let u = says p _ _ r (c .before .before .before .before .before .before .before .before .before .before .before .before .before .before .before .before .before .before .finished .ensures) ∙ c .before .before .before .before .before .before .before .before .before .before .before .before .before .before .before .before .before .if1 .left in
-    running-on p _ _ r u (omega (arith, c .before .before .before .before .before .before .before .before .before .before .before .before .before .before .before .before .if2 .left)) (c .before .before .before .before .before .before .before .before .before .before .before .before .before .emit .ensures) (c .before .before .before .before .before .before .before .before .if3 .left) (c .before .before .before .before .step .ensures)
-    (c .before .before .before .before .step .kept .1 .1 .1 .1 .1 .1 .0 ∙ c .before .before .before .before .before .before .before .before .before .before .before .before .before .emit .kept .1 .1 .1 .1 .0 ∙ r .work-long) (c .before .before .before .before .step .kept .1 .1 .1 .1 .1 .0)
-
-stop-number-requires : tie.Need-stop-number-requires Inv-loop μ-loop
-stop-number-requires c κs = tt
+loop-again c =
+    let s = c .before .before .before .before .step in
+    let f = c .before .before .before .before .before .before .before .before in
+    let e = f .before .before .before .before .before in
+    let b = e .before .before .before in
+    let r = b .before .before .before .loop .inv in
+    running-on r (e .emit .ensures) (b .before .before .finished .ensures) (b .before .if1 .left) (λ z. omega (arith, b .if2 .left)) (f .if3 .left) (s .ensures)
+    (s .kept .1 .1 .1 .1 .1 .1 .0 ∙ e .emit .kept .1 .1 .1 .1 .0 ∙ r .work-long) (s .kept .1 .1 .1 .1 .1 .0)
 
 same-length : tie.Need-same-length Inv-loop μ-loop
 same-length c = c .before .before .before .loop .inv .position-long
 
 same-length-2 : tie.Need-same-length-2 Inv-loop μ-loop
-same-length-2 c = let l = output-long (c .before .before .before .before .before .before .before .before .before .before .pre) _ _ (c .before .before .before .loop .inv) in
+same-length-2 c =
+    let l = output-long (c .before .before .before .loop .inv) in
     ⊎-elim (λ w. ap length (w .1) ∙ l) (⊎-elim (λ w. ap length (w .2) ∙ l) (λ w. ap length (w .10) ∙ w .4 .kept .1 .1 .1 .1 .1 .1 .0 ∙ l)) (c .before .if1 .came)
 
 same-length-3 : tie.Need-same-length-3 Inv-loop μ-loop
-same-length-3 c = let l = c .before .before .before .loop .inv .work-long in
+same-length-3 c =
+    let l = c .before .before .before .loop .inv .work-long in
     ⊎-elim (λ w. ap length (w .2) ∙ l) (⊎-elim (λ w. ap length (w .3) ∙ l) (λ w. ap length (w .11) ∙ w .4 .kept .1 .1 .1 .1 .0 ∙ l)) (c .before .if1 .came)
 
 returns : tie.Need-returns Inv-loop μ-loop
-returns c = let p = c .before .before .before .before .before .before .before .before .before .before .pre in
+returns c =
     let r = c .before .before .before .loop .inv in
-    let l = within p _ _ r in
     let f = c .before .before .finished .ensures in
     let e = c .stop-number .ensures in
     ⊎-elim
-    (λ w. reply-finished p _ _ r (says p _ _ r f ∙ w .0 .taken) _ _ e (w .4) _ (w .1) _ (w .3))
+    (λ w. turn-finished (r .turn) e (w .4) (w .3 ∙ r .none-wanted) (w .1) (says r f ∙ w .0 .taken))
     (⊎-elim
-    (λ w. reply-spent p _ _ r (says p _ _ r f ∙ w .0 .left) (omega (arith, w .1 .taken)) _ _ e (w .5) _ (w .2) _ (w .4))
-    (λ w. reply-full p _ _ r (says p _ _ r f ∙ w .0 .left) (omega (arith, w .1 .left)) (w .4 .ensures) (w .9 .taken) _ _ e (w .13) _ (w .10) _ (w .12)))
+    (λ w. turn-spent (r .turn) e (says r f ∙ w .0 .left) (w .5) (w .4 ∙ r .none-wanted) (w .2) (omega (arith, w .1 .taken, r .turn .steps-fit)))
+    (λ w. reply-full r (w .4 .ensures) f (w .0 .left) (λ z. omega (arith, w .1 .left)) (w .9 .taken) e (w .13) (w .12) (w .10)))
     (c .before .if1 .came)
 
 pub run-spec : {M : Type 1} → statement M
@@ -94,14 +97,14 @@ run-spec =
     μ-loop
     cast-c
     loop-holds
-    finished-requires
+    (λ c κs. tt)
     emit-requires
     add-groups
     step-requires
     add-steps
     loop-less
     loop-again
-    stop-number-requires
+    (λ c κs. tt)
     same-length
     same-length-2
     same-length-3

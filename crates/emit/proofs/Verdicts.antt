@@ -1,9 +1,10 @@
--- Whether the taken set qualifies, test by test: what each test of the page's function says of every position for which the state stands.
+-- Whether the taken set qualifies, test by test: what each test of `qualifies` says of every position for which the state stands.
 -- Assumes nothing.
 use Prim.Native.Nat.{ℕ, zero, suc, _+_, _-_, _*_, _≤_, _<_}
 use mathlib.Core.Path.{_≡_, refl, sym, ap, ap₂, _∙_, subst}
 use mathlib.Core.Bool.{Bool, true, false, _&&_, not, true≢false}
 use mathlib.Core.List.{List, map}
+use mathlib.Core.Logic.{_≢_}
 use native.Mathlib.Nat.{add-zero}
 use native.Mathlib.Omega.{arith}
 use lib.ListN.{length, getD}
@@ -14,22 +15,22 @@ use Rattle.model.specs.Walk.{Position, has, found}
 use Rattle.model.specs.Listing.{is, adjacent, pivot, apart, takenSet, takenList, rules}
 use Rattle.theory.specs.Search.{Loopless, Symmetric, Candidates}
 use Rattle.theory.proofs.basics.Tests.{test-and, test-self, fails}
-use Rattle.theory.proofs.basics.Passing.{taken-members, passing-listed}
+use Rattle.theory.proofs.basics.Passing.{passing-listed}
 use Rattle.theory.proofs.basics.PassingParts.{passing-count}
 use Rattle.graph.proofs.Ranks.{table-size}
 use Rattle.graph.proofs.Refusals.{table-accepted}
 use Rattle.isolation.specs.declared.Settings.{Settings}
 use Rattle.isolation.specs.declared.Tally.{Tally}
 use Rattle.isolation.specs.Numbers.{settingsOf, isolatedOf, beatenOf, TallyOf}
-use Rattle.theory.specs.Parts.{part, Kept}
+use Rattle.theory.specs.Parts.{part}
 use Rattle.larger.specs.Search.{Lent, Posed, Tested}
-use Rattle.theory.proofs.basics.Parts.{part-below, part-above}
+use Rattle.theory.proofs.basics.Parts.{part-same}
 use Rattle.walk.specs.declared.State.{State}
 use Rattle.walk.specs.State.{takenRanks, leftRanks, Stands}
 use Rattle.emit.specs.Qualify.{joinedOf, candidatesOf, Sifts, Sifted, tallyOf, readTally, TallyFits, Asks, SaysQualifies}
 use Rattle.walk.proofs.Taken.{taken-length}
-use Rattle.walk.proofs.StandsFor.{taken-count, left-count, vertex-entry, left-entry}
-use Rattle.emit.proofs.Found.{taken-tally, taken-clique, taken-candidates, found-apart, found-untaken, found-open, found-by}
+use Rattle.walk.proofs.StandsFor.{taken-low, taken-count, left-count, vertex-entry, left-entry}
+use Rattle.emit.proofs.TakenSet.{taken-tally, taken-clique, taken-candidates, found-apart, found-untaken, found-open, found-by}
 
 -- two tests of which no number passes both pass no more than n numbers below n
 count-apart : (n : ℕ) (p q : ℕ → Bool) → ((i : ℕ) → p i ≡ true → q i ≡ false) → count n p + count n q ≤ n
@@ -58,45 +59,28 @@ ranks-fit G p =
     omega arith)) in
     omega arith
 
--- the state stands for a position as long as the parts in use are kept
-module _ (G : Graph) (p : Position) (s : State) (w w₁ : List ℕ) (h : Stands G p w s) where
-  stands-by : length w₁ ≡ length w → part w₁ 0 (s .taken) ≡ part w 0 (s .taken) → part w₁ (G .size) (s .taken) ≡ part w (G .size) (s .taken)
-      → part w₁ (2 * G .size) (s .left) ≡ part w (2 * G .size) (s .left) → Stands G p w₁ s
-  stands-by e a b c =
-      record {
-        long = h .long;
-        room = let r = h .room in omega arith;
-        bound = h .bound;
-        taken-bound = h .taken-bound;
-        left-bound = h .left-bound;
-        bytes = h .bytes;
-        decided = h .decided;
-        still-open = h .still-open;
-        ranks = a ∙ h .ranks;
-        vertices = b ∙ h .vertices;
-        left = c ∙ h .left;
-        sum = h .sum;
-        apart = h .apart;
-      }
-
-  pub stands-above : Kept (3 * G .size) (4 * G .size) w w₁ → Stands G p w₁ s
-  stands-above k =
-      let a = h .bound in
-      let b = h .taken-bound in
-      let c = h .left-bound in
-      stands-by (k .length-kept)
-      (part-below (3 * G .size) (4 * G .size) w w₁ k 0 (s .taken) (omega arith))
-      (part-below (3 * G .size) (4 * G .size) w w₁ k (G .size) (s .taken) (omega arith))
-      (part-below (3 * G .size) (4 * G .size) w w₁ k (2 * G .size) (s .left) (omega arith))
-
-  pub stands-past : Kept (G .size + s .taken) (2 * G .size) w w₁ → Stands G p w₁ s
-  stands-past k =
-      let a = h .bound in
-      let b = h .taken-bound in
-      stands-by (k .length-kept)
-      (part-below (G .size + s .taken) (2 * G .size) w w₁ k 0 (s .taken) (omega arith))
-      (part-below (G .size + s .taken) (2 * G .size) w w₁ k (G .size) (s .taken) (omega arith))
-      (part-above (G .size + s .taken) (2 * G .size) w w₁ k (2 * G .size) (s .left) (omega arith))
+-- the state stands for a position as long as the entries in use are kept: parts 0 and 1 up to the last taken vertex, and part 2
+stands-kept : (G : Graph) (p : Position) (s : State) (w w₁ : List ℕ) → Stands G p w s → length w₁ ≡ length w
+    → ((e : ℕ) → e < G .size + s .taken → getD w₁ e 0 ≡ getD w e 0) → ((e : ℕ) → 2 * G .size ≤ e → e < 3 * G .size → getD w₁ e 0 ≡ getD w e 0) → Stands G p w₁ s
+stands-kept G p s w w₁ h k f g =
+    let a = h .bound in
+    let b = h .taken-bound in
+    let c = h .left-bound in
+    record {
+      long = h .long;
+      room = let r = h .room in omega arith;
+      bound = a;
+      taken-bound = b;
+      left-bound = c;
+      bytes = h .bytes;
+      decided = h .decided;
+      still-open = h .still-open;
+      ranks = part-same w₁ w 0 (s .taken) k (λ e _ l. f e (omega arith)) ∙ h .ranks;
+      vertices = part-same w₁ w (G .size) (s .taken) k (λ e _ l. f e l) ∙ h .vertices;
+      left = part-same w₁ w (2 * G .size) (s .left) k (λ e o l. g e o (omega arith)) ∙ h .left;
+      sum = h .sum;
+      apart = h .apart;
+    }
 
 -- the first and the last taken vertex are vertices
 module _ {n : ℕ} {ranks w : List ℕ} {s : State} (f : TallyFits n ranks w s) where
@@ -131,15 +115,6 @@ module _ {n : ℕ} {t ranks w : List ℕ} {q : Settings} {s : State} (a : Asks n
   pub taken-few : s .taken ≤ n
   taken-few = let z = table-size n t in let b = h₀ .bound in let c = h₀ .taken-bound in omega arith
 
-  vertices-below : (i : ℕ) → i < s .taken → getD w (n + i) 0 < n
-  unfolding byTable onVertices
-  vertices-below i l =
-      let e = vertex-entry G p₀ w s h₀ i l in
-      let c = taken-count G p₀ w s h₀ in
-      let k = taken-length G p₀ in
-      let v = taken-members G p₀ .sound i (omega arith) .0 in
-      omega arith
-
   -- ---- what the tests say
 
   still : ((p : Position) → Stands G p w s → false ≡ found (rules G (settingsOf q)) p) → SaysQualifies n t w w q s false
@@ -158,7 +133,10 @@ module _ {n : ℕ} {t ranks w : List ℕ} {q : Settings} {s : State} (a : Asks n
   pub judged-apart : s .apart ≡ true → SaysQualifies n t w w q s false
   judged-apart e = still (λ p h. sym (found-apart G p (settingsOf q) (sym (h .apart) ∙ e)))
 
-  module _ (all : n ≤ s .decided) (some : 0 < s .taken) (met : s .apart ≡ false) where
+  module _ (all : n ≤ s .decided) (taken : s .taken ≢ 0) (met : s .apart ≡ false) where
+    some : 0 < s .taken
+    some = omega (arith, taken)
+
     pub tally-fits : TallyFits n ranks w s
     tally-fits =
         record {
@@ -167,7 +145,7 @@ module _ {n : ℕ} {t ranks w : List ℕ} {q : Settings} {s : State} (a : Asks n
           work-fits = let r = h₀ .room in let z = table-size n t in omega arith;
           some = some;
           few = taken-few;
-          vertices = vertices-below;
+          vertices = taken-low (a .ranked) (a .stands);
         }
 
     -- what is read is the taken set's numbers
@@ -178,8 +156,8 @@ module _ {n : ℕ} {t ranks w : List ℕ} {q : Settings} {s : State} (a : Asks n
         let first = vertex-entry G p w s h 0 some in
         let last = vertex-entry G p w s h (s .taken - 1) (omega arith) in
         let zero-in = ap (λ (k : ℕ). getD w k 0) (sym (add-zero n)) in
-        let low = vertices-below 0 some in
-        let high = vertices-below (s .taken - 1) (omega arith) in
+        let low = taken-low (a .ranked) (a .stands) 0 some in
+        let high = taken-low (a .ranked) (a .stands) (s .taken - 1) (omega arith) in
         same-tally _ _
         (sym l)
         (h .sum)
@@ -197,7 +175,7 @@ module _ {n : ℕ} {t ranks w : List ℕ} {q : Settings} {s : State} (a : Asks n
     found-is p h =
         found-by G p (h .long) (h .bytes) (all-decided p h) (some-listed p h) loopless symmetric (settingsOf q) (sym (h .apart) ∙ met)
 
-    module _ (y : Tally) (e : y ≡ readTally n ranks w s) where
+    module _ {y : Tally} (e : y ≡ readTally n ranks w s) where
       isolated-is : (p : Position) → Stands G p w s → isolatedOf q (tallyOf G p) ≡ isolatedOf q y
       isolated-is p h = ap (isolatedOf q) (sym (e ∙ tally-is p h))
 
@@ -219,7 +197,7 @@ module _ {n : ℕ} {t ranks w : List ℕ} {q : Settings} {s : State} (a : Asks n
             room = h₀ .room;
             few-taken = taken-few;
             few-left = left-few;
-            vertices = vertices-below;
+            vertices = taken-low (a .ranked) (a .stands);
             left-ranks = λ i l.
                 let e = left-entry G p₀ w s h₀ i l in
                 let c = left-count G p₀ w s h₀ in
@@ -280,11 +258,10 @@ module _ {n : ℕ} {t ranks w : List ℕ} {q : Settings} {s : State} (a : Asks n
               answer = λ p h.
                   ap not (x .answer ∙ ap₂ (λ (z : Tally) (vs : List ℕ). beatenOf G q z vs) (e ∙ tally-is p h) (candidates-are p h))
                   ∙ sym (found-is p h ∙ ap (λ (d : Bool). d && not (beatenOf G q (tallyOf G p) (candidatesOf G p))) (isolated-is p h ∙ i));
-              stands = λ p h. after-both p h;
+              stands = λ p h.
+                  let k = ap (λ (z : Tally). z .members) e in
+                  stands-kept G p s w w₂ h (x .kept .length-kept ∙ f .kept .length-kept)
+                  (λ i l. x .kept .below i (omega arith) ∙ f .kept .below i (let b = h .bound in let d = h .taken-bound in omega arith))
+                  (λ i o l. x .kept .above i o ∙ f .kept .below i l);
               length-kept = x .kept .length-kept ∙ f .kept .length-kept;
             }
-          where
-            after-both : (p : Position) → Stands G p w s → Stands G p w₂ s
-            after-both p h =
-                stands-past G p s w₁ w₂ (stands-above G p s w w₁ h (f .kept))
-                (subst (λ (k : ℕ). Kept (n + k) (2 * n) w₁ w₂) (ap (λ (z : Tally). z .members) e) (x .kept))

@@ -1,38 +1,36 @@
--- Whether the taken set of a position with all ranks decided qualifies, from the numbers that the page keeps: the taken vertices, their degrees and the
+-- Whether the taken set of a position with all ranks decided qualifies, from what the state of the walk keeps: the taken vertices, their degrees and the
 -- left neighbours of the pivot.
 -- Assumes nothing.
-use Prim.Native.Nat.{ℕ, zero, suc, _+_, _-_, _≤_, _<_, min, max}
+use Prim.Native.Nat.{ℕ, zero, suc, _-_, _≤_, _<_}
 use mathlib.Core.Path.{_≡_, refl, sym, ap, ap₂, _∙_, subst}
-use mathlib.Core.Bool.{Bool, true, false, _&&_, not, cond, true≢false}
-use mathlib.Core.List.{List, [], _∷_, _++_, map}
+use mathlib.Core.Bool.{Bool, true, false, _&&_, not, cond, true≢false, false≢true}
+use mathlib.Core.List.{List, [], _∷_, map}
 use mathlib.Core.Logic.{_≢_, _⊎_, inl, inr, ⊎-elim}
 use native.Mathlib.Nat.{not-suc-le-zero}
 use native.Mathlib.Numerals.{add-one}
 use native.Mathlib.Omega.{arith}
 use lib.ListN.{length, getD, take, length-map}
 use lib.Seq.{take-suc, take-length}
-use borrow.Author.Tests.{eqb-true, eqb-false, eq-eqb}
-use Rattle.model.specs.Below.{passing}
+use borrow.Author.Tests.{eqb-false, eq-eqb}
 use Rattle.model.specs.Graph.{Graph, degree, rankOf, vertexAt}
-use Rattle.model.specs.Groups.{Settings, VertexSet}
+use Rattle.model.specs.Groups.{Settings, VertexSet, sizeOf}
 use Rattle.model.specs.Meaning.{In, Clique}
 use Rattle.model.specs.Walk.{Position, has, found, due}
 use Rattle.model.specs.Listing.{is, adjacent, pivot, apart, takenSet, takenList, recordOf, rules}
-use Rattle.theory.specs.Search.{Loopless, Symmetric, common, Tally, leastDegree, largestDegree, isolatedBy, joinedAll, Listed, among, Members, Candidates, beaten}
-use Rattle.theory.proofs.basics.Tests.{test-and, test-self, fails, trichotomy}
-use Rattle.theory.proofs.basics.Counting.{least-passes}
+use Rattle.theory.specs.Search.{Loopless, Symmetric, common, Tally, degreeSum, leastDegree, largestDegree, isolatedBy, joinedAll, Listed, among, Members, Candidates, beaten}
+use Rattle.theory.proofs.basics.Tests.{test-and, test-self, fails, passes-or-fails, trichotomy}
 use Rattle.theory.proofs.graph.Ranks.{rank-below, rank-once, rank-degree, vertex-at, vertex-of}
 use Rattle.theory.proofs.graph.Meaning.{qualifies-iff}
 use Rattle.theory.proofs.graph.Degrees.{least-bound, largest-bound, least-member, largest-member}
 use Rattle.theory.proofs.graph.Cliques.{common-test}
-use Rattle.theory.proofs.basics.Passing.{passing-listed, passing-has, passing-rises, map-at, taken-members}
+use Rattle.theory.proofs.basics.Passing.{passing-listed, passing-has, passing-rises, taken-members, map-at}
 use Rattle.theory.proofs.walk.Moves.{has-found, has-none}
 use Rattle.theory.proofs.search.Members.{tally-none, tally-next, tally-all, common-list}
 use Rattle.theory.proofs.walk.Lawful.{apart-test}
 use Rattle.theory.proofs.search.Maximal.{qualifies-tally}
-use Rattle.walk.specs.State.{leftRanks, degreesOf}
+use Rattle.walk.specs.State.{takenRanks, leftRanks, degreesOf}
 use Rattle.emit.specs.Qualify.{joinedOf, candidatesOf}
-use Rattle.walk.proofs.Taken.{degrees-none, degrees-more}
+use Rattle.walk.proofs.Taken.{degrees-none, degrees-more, taken-list, taken-length, taken-at, taken-has, pivot-first}
 
 -- ---- lists
 
@@ -45,61 +43,33 @@ cons-listed : (w v : ℕ) (vs : List ℕ) → Listed w (v ∷ vs) → (w ≡ v) 
 cons-listed w v vs (zero, h, e) = inl (sym e)
 cons-listed w v vs (suc i, h, e) = inr (i, omega arith, e)
 
-not-listed : (w : ℕ) → Listed w [] → ⊥
-not-listed w (i, h, e) = not-suc-le-zero h
+-- and where the first is there only if it passes a test
+picked : (b : Bool) (w v : ℕ) (vs : List ℕ) → Listed w (cond b (v ∷ vs) vs) → ((w ≡ v) × (b ≡ true)) ⊎ Listed w vs
+picked true w v vs m = ⊎-elim (λ e. inl (e, refl)) inr (cons-listed w v vs m)
+picked false w v vs m = inr m
+
+pick : (b : Bool) (w v : ℕ) (vs : List ℕ) → ((w ≡ v) × (b ≡ true)) ⊎ Listed w vs → Listed w (cond b (v ∷ vs) vs)
+pick true w v vs m = listed-cons w v vs (⊎-elim (λ t. inl (t .0)) inr m)
+pick false w v vs (inl t) = absurd (false≢true (t .1))
+pick false w v vs (inr m) = m
 
 -- those that are joined to all stand in the list, and are joined to all; and all such are there
 module _ (G : Graph) (us : List ℕ) where
-  pub joinedOf-sound : (vs : List ℕ) (w : ℕ) → Listed w (joinedOf G us vs) → Listed w vs × (joinedAll G w us ≡ true)
+  joinedOf-sound : (vs : List ℕ) (w : ℕ) → Listed w (joinedOf G us vs) → Listed w vs × (joinedAll G w us ≡ true)
   unfolding joinedOf
-  joinedOf-sound [] w m = absurd (not-listed w m)
-  joinedOf-sound (v ∷ vs) w m = go (joinedAll G v us) refl m (joinedOf-sound vs w)
-    where
-      go : (b : Bool) → joinedAll G v us ≡ b → Listed w (cond b (v ∷ joinedOf G us vs) (joinedOf G us vs))
-          → (Listed w (joinedOf G us vs) → Listed w vs × (joinedAll G w us ≡ true)) → Listed w (v ∷ vs) × (joinedAll G w us ≡ true)
-      go true e m ih =
-          ⊎-elim
-          (λ s. (listed-cons w v vs (inl s), ap (λ (x : ℕ). joinedAll G x us) s ∙ e))
-          (λ r. let t = ih r in (listed-cons w v vs (inr (t .0)), t .1))
-          (cons-listed w v (joinedOf G us vs) m)
-      go false e m ih = let t = ih m in (listed-cons w v vs (inr (t .0)), t .1)
+  joinedOf-sound [] w m = absurd (not-suc-le-zero (m .1))
+  joinedOf-sound (v ∷ vs) w m =
+      ⊎-elim
+      (λ t. (listed-cons w v vs (inl (t .0)), ap (λ (x : ℕ). joinedAll G x us) (t .0) ∙ t .1))
+      (λ r. let t = joinedOf-sound vs w r in (listed-cons w v vs (inr (t .0)), t .1))
+      (picked (joinedAll G v us) w v (joinedOf G us vs) m)
 
-  pub joinedOf-complete : (vs : List ℕ) (w : ℕ) → Listed w vs → joinedAll G w us ≡ true → Listed w (joinedOf G us vs)
+  joinedOf-complete : (vs : List ℕ) (w : ℕ) → Listed w vs → joinedAll G w us ≡ true → Listed w (joinedOf G us vs)
   unfolding joinedOf
-  joinedOf-complete [] w m e = absurd (not-listed w m)
-  joinedOf-complete (v ∷ vs) w m e = go (joinedAll G v us) refl (cons-listed w v vs m) (λ r. joinedOf-complete vs w r e)
-    where
-      go : (b : Bool) → joinedAll G v us ≡ b → (w ≡ v) ⊎ Listed w vs → (Listed w vs → Listed w (joinedOf G us vs))
-          → Listed w (cond b (v ∷ joinedOf G us vs) (joinedOf G us vs))
-      go true d (inl s) ih = listed-cons w v (joinedOf G us vs) (inl s)
-      go true d (inr r) ih = listed-cons w v (joinedOf G us vs) (inr (ih r))
-      go false d (inl s) ih = absurd (true≢false (sym e ∙ ap (λ (x : ℕ). joinedAll G x us) s ∙ d))
-      go false d (inr r) ih = ih r
-
-  -- as a loop goes
-  pub joinedOf-none : joinedOf G us [] ≡ []
-  unfolding joinedOf
-  joinedOf-none = refl
-
-  pub joinedOf-push : (vs : List ℕ) (v : ℕ) → joinedOf G us (vs ++ (v ∷ [])) ≡ joinedOf G us vs ++ cond (joinedAll G v us) (v ∷ []) []
-  unfolding joinedOf
-  joinedOf-push [] v = refl
-  joinedOf-push (u ∷ vs) v = go (joinedAll G u us) (joinedOf-push vs v)
-    where
-      go : (b : Bool) → joinedOf G us (vs ++ (v ∷ [])) ≡ joinedOf G us vs ++ cond (joinedAll G v us) (v ∷ []) []
-          → cond b (u ∷ joinedOf G us (vs ++ (v ∷ []))) (joinedOf G us (vs ++ (v ∷ [])))
-          ≡ cond b (u ∷ joinedOf G us vs) (joinedOf G us vs) ++ cond (joinedAll G v us) (v ∷ []) []
-      go true e = ap (λ (l : List ℕ). u ∷ l) e
-      go false e = e
-
--- ---- a position's ranks
-
--- a rank that is neither open nor taken is left
-only-two : (x : ℕ) → x ≤ 2 → x ≢ 0 → x ≢ 1 → x ≡ 2
-only-two zero h a b = absurd (a refl)
-only-two (suc zero) h a b = absurd (b refl)
-only-two (suc (suc zero)) h a b = refl
-only-two (suc (suc (suc x))) h a b = absurd (omega arith)
+  joinedOf-complete [] w m e = absurd (not-suc-le-zero (m .1))
+  joinedOf-complete (v ∷ vs) w m e =
+      pick (joinedAll G v us) w v (joinedOf G us vs)
+      (⊎-elim (λ t. inl (t, sym (ap (λ (x : ℕ). joinedAll G x us) t) ∙ e)) (λ r. inr (joinedOf-complete vs w r e)) (cons-listed w v vs m))
 
 -- ---- the taken vertices
 
@@ -114,22 +84,16 @@ module _ (G : Graph) (p : Position) where
   M = taken-members G p
 
   -- a member has the rank that it is taken at
-  ranks-length : length us ≡ length (passing (G .size) (is 1 p))
-  unfolding takenList
-  ranks-length = length-map (passing (G .size) (is 1 p)) (vertexAt G)
-
-  taken-at : (i : ℕ) → i < length us → getD us i 0 ≡ vertexAt G (getD (passing (G .size) (is 1 p)) i 0)
-  unfolding takenList
-  taken-at i h = let l = ranks-length in map-at (vertexAt G) (passing (G .size) (is 1 p)) i (omega arith)
-
-  taken-rank : (i : ℕ) → i < length us → (getD (passing (G .size) (is 1 p)) i 0 < G .size) × (is 1 p (getD (passing (G .size) (is 1 p)) i 0) ≡ true)
-  taken-rank i h = let l = ranks-length in passing-listed (is 1 p) (G .size) (getD (passing (G .size) (is 1 p)) i 0) (i, omega arith, refl)
-
-  rank-taken : (i : ℕ) → i < length us → rankOf G (getD us i 0) ≡ getD (passing (G .size) (is 1 p)) i 0
-  rank-taken i h = ap (rankOf G) (taken-at i h) ∙ vertex-at G (getD (passing (G .size) (is 1 p)) i 0) (taken-rank i h .0) .1
+  rank-taken : (i : ℕ) → i < length us → rankOf G (getD us i 0) ≡ getD (takenRanks G p) i 0
+  rank-taken i h =
+      let l = taken-length G p in
+      ap (λ (vs : List ℕ). rankOf G (getD vs i 0)) (taken-list G p)
+      ∙ ap (rankOf G) (map-at (vertexAt G) (takenRanks G p) i (omega arith))
+      ∙ vertex-at G (getD (takenRanks G p) i 0) (taken-at G p i (omega arith) .0) .1
 
   -- a vertex later in the list has no smaller degree
   degrees-rise : (i j : ℕ) → i ≤ j → j < length us → degree G (getD us i 0) ≤ degree G (getD us j 0)
+  unfolding takenRanks
   degrees-rise i j h l =
       rank-degree G (getD us i 0) (getD us j 0) (M .sound j l .0) (at (trichotomy i j))
     where
@@ -137,7 +101,7 @@ module _ (G : Graph) (p : Position) where
       at (inl k) =
           let a = rank-taken i (omega arith) in
           let b = rank-taken j l in
-          let n = ranks-length in
+          let n = taken-length G p in
           let m = passing-rises (is 1 p) (G .size) i j k (omega arith) in
           omega arith
       at (inr (inl e)) = let s = ap (λ (k : ℕ). rankOf G (getD us k 0)) e in omega arith
@@ -168,39 +132,25 @@ module _ (G : Graph) (p : Position) where
         let d = x .2 in
         omega arith
 
-    -- the numbers of the first i members
-    tally-upto : (i : ℕ) → i ≤ length us → (least : ℕ) × (largest : ℕ) × Tally G (among (take i us)) i (degreesOf G (take i us)) least largest
-    tally-upto zero h =
-        (G .size, 0, subst (λ (k : ℕ). Tally G (among []) 0 k (G .size) 0) (sym (degrees-none G)) (tally-none G))
-    tally-upto (suc i) h =
-        let t = tally-upto i (omega arith) in (
-          min (t .0) (degree G (getD us i 0)),
-          max (t .1) (degree G (getD us i 0)),
-          more (t .0) (t .1) (tally-next G S us M i (omega arith) i (degreesOf G (take i us)) (t .0) (t .1) (t .2)),
+    -- how many the first i members are, and the sum of their degrees
+    sums : (i : ℕ) → i ≤ length us → (i ≡ sizeOf G (among (take i us))) × (degreesOf G (take i us) ≡ degreeSum G (among (take i us)))
+    sums zero h = let t = tally-none G in (t .members, degrees-none G ∙ t .summed)
+    sums (suc i) h =
+        let s = sums i (omega arith) in
+        let t = tally-next G S us M i (omega arith) i (degreesOf G (take i us)) _ _ (record { members = s .0; summed = s .1; lowest = refl; highest = refl }) in (
+          sym (add-one i) ∙ t .members ∙ ap (λ (k : ℕ). sizeOf G (among (take k us))) (add-one i),
+          ap (degreesOf G) (take-suc us i 0 (omega arith))
+              ∙ degrees-more G (take i us) (getD us i 0)
+              ∙ t .summed
+              ∙ ap (λ (k : ℕ). degreeSum G (among (take k us))) (add-one i),
         )
-      where
-        more : (a b : ℕ)
-            → Tally G (among (take (i + 1) us)) (i + 1) (degreesOf G (take i us) + degree G (getD us i 0)) (min a (degree G (getD us i 0))) (max b (degree G (getD us i 0)))
-            → Tally G (among (take (suc i) us)) (suc i) (degreesOf G (take (suc i) us)) (min a (degree G (getD us i 0))) (max b (degree G (getD us i 0)))
-        more a b t =
-            subst
-            (λ (x : ℕ). Tally G (among (take (suc i) us)) (suc i) x (min a (degree G (getD us i 0))) (max b (degree G (getD us i 0))))
-            (sym (ap (degreesOf G) (take-suc us i 0 (omega arith)) ∙ degrees-more G (take i us) (getD us i 0)))
-            (subst
-            (λ (k : ℕ). Tally G (among (take k us)) k (degreesOf G (take i us) + degree G (getD us i 0)) (min a (degree G (getD us i 0))) (max b (degree G (getD us i 0))))
-            (add-one i) t)
 
     -- the numbers of the taken set
     pub taken-tally : Tally G S (length us) (degreesOf G us) (degree G (getD us 0 0)) (degree G (getD us (length us - 1) 0))
     taken-tally =
-        let t = tally-upto (length us) (omega arith) in
-        let a = tally-all G S us M (length us) (degreesOf G (take (length us) us)) (t .0) (t .1) (t .2) in
-        record {
-          members = a .members;
-          summed = ap (degreesOf G) (sym (take-length us)) ∙ a .summed;
-          lowest = first-least;
-          highest = last-largest;
-        }
+        let s = sums (length us) (omega arith) in
+        let t = tally-all G S us M _ _ _ _ (record { members = s .0; summed = s .1; lowest = refl; highest = refl }) in
+        record { members = t .members; summed = ap (degreesOf G) (sym (take-length us)) ∙ t .summed; lowest = first-least; highest = last-largest }
 
     -- where no two taken ranks are not adjacent, the taken set is a clique
     module _ (symmetric : Symmetric G) where
@@ -209,17 +159,13 @@ module _ (G : Graph) (p : Position) where
       taken-clique e = record { nonempty = (getD us 0 0, M .sound 0 some); pairwise = λ u v hu hv d. at u v hu hv d (trichotomy (rankOf G u) (rankOf G v)) }
         where
           met : (u v : ℕ) → In G S u → In G S v → rankOf G u < rankOf G v → G .joined u v ≡ true
-          met u v hu hv l = go (adjacent G (rankOf G u) (rankOf G v)) refl
-            where
-              go : (b : Bool) → adjacent G (rankOf G u) (rankOf G v) ≡ b → G .joined u v ≡ true
-              go true j = sym (ap₂ (G .joined) (vertex-of G u (hu .0)) (vertex-of G v (hv .0))) ∙ j
-              go false j =
-                  absurd
-                  (true≢false
-                  (sym
-                  (apart-test G p .1
-                  (rankOf G u, rank-below G u (hu .0), (rankOf G v, rank-below G v (hv .0), (((l, hu .1), hv .1), j))))
-                  ∙ e))
+          met u v hu hv l =
+              ⊎-elim
+              (λ j. sym (ap₂ (G .joined) (vertex-of G u (hu .0)) (vertex-of G v (hv .0))) ∙ j)
+              (λ j.
+              let far = apart-test G p .1 (rankOf G u, rank-below G u (hu .0), (rankOf G v, rank-below G v (hv .0), (((l, hu .1), hv .1), j))) in
+              absurd (true≢false (sym far ∙ e)))
+              (passes-or-fails (adjacent G (rankOf G u) (rankOf G v)))
 
           at : (u v : ℕ) → In G S u → In G S v → u ≢ v → (rankOf G u < rankOf G v) ⊎ (rankOf G u ≡ rankOf G v) ⊎ (rankOf G v < rankOf G u) → G .joined u v ≡ true
           at u v hu hv d (inl l) = met u v hu hv l
@@ -242,23 +188,17 @@ module _ (G : Graph) (p : Position) where
       (λ z. let s = sym (a .1) ∙ ap (rankOf G) z ∙ b .1 in let l = f .0 .0 .0 in omega arith))
       ∙ f .1)
 
-  -- a taken set that qualifies has a member, and no two taken ranks are not adjacent
+  -- a taken set that qualifies is a clique, so it has a member and no two taken ranks that are not adjacent
   module _ (s : Settings) where
-    pub found-apart : apart G p ≡ true → found (rules G s) p ≡ false
+    found-clique : found (rules G s) p ≡ true → Clique G S
     unfolding found
-    found-apart e =
-        fails (found (rules G s) p)
-        (λ f. apart-no-clique e (qualifies-iff G s S .0 (test-and {a = not (has 0 p)} test-self test-self .0 f .1) .isolated-clique .clique))
+    found-clique f = qualifies-iff G s S .0 (test-and {a = not (has 0 p)} test-self test-self .0 f .1) .isolated-clique .clique
+
+    pub found-apart : apart G p ≡ true → found (rules G s) p ≡ false
+    found-apart e = fails (found (rules G s) p) (λ f. apart-no-clique e (found-clique f))
 
     pub found-untaken : length us ≡ 0 → found (rules G s) p ≡ false
-    unfolding found
-    found-untaken e =
-        fails (found (rules G s) p)
-        (λ f.
-        let C = qualifies-iff G s S .0 (test-and {a = not (has 0 p)} test-self test-self .0 f .1) .isolated-clique .clique in
-        let m = M .complete (C .nonempty .0) (C .nonempty .1) in
-        let l = m .1 in
-        omega arith)
+    found-untaken e = fails (found (rules G s) p) (λ f. let c = found-clique f .nonempty in let m = M .complete (c .0) (c .1) .1 in omega arith)
 
     -- nothing is found while a rank is open
     pub found-open : (r : ℕ) → r < length p → getD p r 0 ≡ 0 → found (rules G s) p ≡ false
@@ -268,17 +208,16 @@ module _ (G : Graph) (p : Position) where
   -- ---- the common neighbours of the taken set
 
   module _ (long : length p ≡ G .size) (bytes : (r : ℕ) → getD p r 0 ≤ 2) (all-decided : (r : ℕ) → r < G .size → getD p r 0 ≢ 0) (some : 0 < length us) where
-    -- the pivot is the first taken rank
-    pivot-taken : (pivot G p < G .size) × (is 1 p (pivot G p) ≡ true)
-    unfolding pivot
-    pivot-taken = let r = taken-rank 0 some in least-passes (G .size) (is 1 p) (getD (passing (G .size) (is 1 p)) 0 0) (r .0) (r .1)
+    some-ranks : 0 < length (takenRanks G p)
+    some-ranks = let l = taken-length G p in omega arith
 
+    -- the pivot is the first taken rank
     pivot-in : In G S (vertexAt G (pivot G p))
     unfolding takenSet
-    pivot-in = let a = vertex-at G (pivot G p) (pivot-taken .0) in (a .0, ap (is 1 p) (a .1) ∙ pivot-taken .1)
-
-    something : has 1 p ≡ true
-    something = let l = pivot-taken .0 in has-found 1 p (pivot G p) (omega arith) (eqb-true (getD p (pivot G p) 0) 1 (pivot-taken .1))
+    pivot-in =
+        let f = pivot-first G p some-ranks in
+        let a = vertex-at G (pivot G p) (f .0) in
+        (a .0, ap (is 1 p) (a .1) ∙ eq-eqb (getD p (pivot G p) 0) 1 (f .1))
 
     -- a common neighbour is joined to the pivot and not taken, so it is left
     left-of : Symmetric G → (v : ℕ) → v < G .size → common G S v ≡ true → Listed v (map (vertexAt G) (leftRanks G p))
@@ -288,7 +227,7 @@ module _ (G : Graph) (p : Position) where
         let l = rank-below G v h in
         let m = passing-has (λ r. has 1 p && is 2 p r && adjacent G (pivot G p) r) (G .size) (rankOf G v) l
         (test-and {a = has 1 p && is 2 p (rankOf G v)} (test-and {a = has 1 p} test-self test-self) test-self .1 (
-          (something, eq-eqb (getD p (rankOf G v) 0) 2 (left-rank (c .beyond))),
+          (taken-has G p long some-ranks, eq-eqb (getD p (rankOf G v) 0) 2 (left-rank (c .beyond))),
           ap (G .joined (vertexAt G (pivot G p))) (vertex-of G v h) ∙ symmetric (vertexAt G (pivot G p)) v (pivot-in .0) h ∙ c .joins (vertexAt G (pivot G p)) pivot-in,
         )) in (
           m .0,
@@ -301,7 +240,7 @@ module _ (G : Graph) (p : Position) where
             let b = bytes (rankOf G v) in
             let d = all-decided (rankOf G v) (rank-below G v h) in
             let e = eqb-false (getD p (rankOf G v) 0) 1 f in
-            only-two (getD p (rankOf G v) 0) b d e
+            omega (arith, d, e)
 
     left-vertex : (v : ℕ) → Listed v (map (vertexAt G) (leftRanks G p)) → v < G .size
     unfolding leftRanks

@@ -1,0 +1,105 @@
+-- How the loop of `candidates` writes the left neighbours of the pivot that are joined to each taken vertex into part 3 of the work slice.
+-- Assumes nothing.
+use Prim.Native.Nat.{ℕ, _+_, _-_, _*_, _≤_, _<_}
+use mathlib.Core.Path.{_≡_, refl, sym, ap, _∙_}
+use mathlib.Core.Bool.{Bool, true, false, cond}
+use mathlib.Core.List.{List, [], _∷_, _++_, map, append-nil}
+use native.Mathlib.Numerals.{add-one}
+use native.Mathlib.Omega.{arith}
+use lib.ListN.{length, getD, take, set, length-map}
+use lib.Seq.{take-suc, take-length}
+use Rattle.model.specs.Graph.{Graph, byTable, vertexAt}
+use Rattle.theory.specs.Search.{joinedAll}
+use Rattle.theory.specs.Parts.{part, Kept, HoldsVertices, Listed}
+use Rattle.theory.proofs.basics.Parts.{part-length, part-at, same-members, listed-none, listed-push, listed-pass}
+use Rattle.theory.proofs.basics.Passing.{map-at}
+use Rattle.graph.proofs.Ranks.{entry-below}
+use Rattle.emit.specs.Qualify.{joinedOf, Sifts, Sifted}
+
+-- a vertex at the end of a list is among those joined to all where it is joined to all
+joinedOf-push : (G : Graph) (us vs : List ℕ) (v : ℕ) → joinedOf G us (vs ++ (v ∷ [])) ≡ joinedOf G us vs ++ cond (joinedAll G v us) (v ∷ []) []
+unfolding joinedOf
+joinedOf-push G us [] v = refl
+joinedOf-push G us (u ∷ vs) v = go (joinedAll G u us) (joinedOf-push G us vs v)
+  where
+    go : (b : Bool) → joinedOf G us (vs ++ (v ∷ [])) ≡ joinedOf G us vs ++ cond (joinedAll G v us) (v ∷ []) []
+        → cond b (u ∷ joinedOf G us (vs ++ (v ∷ []))) (joinedOf G us (vs ++ (v ∷ [])))
+        ≡ cond b (u ∷ joinedOf G us vs) (joinedOf G us vs) ++ cond (joinedAll G v us) (v ∷ []) []
+    go true e = ap (λ (l : List ℕ). u ∷ l) e
+    go false e = e
+
+-- of the first j left vertices those that are joined to each taken one
+abbrev pub sifted : ℕ → List ℕ → List ℕ → ℕ → ℕ → ℕ → List ℕ
+sifted n t w taken left j = joinedOf (byTable n t) (part w n taken) (take j (map (vertexAt (byTable n t)) (part w (2 * n) left)))
+
+module _ {n : ℕ} {t ranks w₀ : List ℕ} {taken left : ℕ} (a : Sifts n t ranks w₀ taken left) where
+  -- the left vertices
+  abbrev lefts : List ℕ
+  lefts = map (vertexAt (byTable n t)) (part w₀ (2 * n) left)
+
+  part-full : length (part w₀ (2 * n) left) ≡ left
+  part-full = let r = a .room in let k = a .few-left in part-length w₀ (2 * n) left (omega arith)
+
+  lefts-length : length lefts ≡ left
+  lefts-length = length-map (part w₀ (2 * n) left) (vertexAt (byTable n t)) ∙ part-full
+
+  pub sifted-none : Listed (3 * n) (3 * n + n) (sifted n t w₀ taken left 0) w₀ w₀ 0
+  unfolding joinedOf
+  sifted-none = listed-none _ _ _ _ refl
+
+  -- the taken vertices are as they were
+  pub members-vertices : {w : List ℕ} → Kept (3 * n) (3 * n + n) w₀ w → HoldsVertices n w n taken
+  members-vertices kept i h = let k = a .few-taken in let e = kept .below (n + i) (omega arith) in let l = a .vertices i h in omega arith
+
+  module _ {w : List ℕ} {m j : ℕ} (s : Listed (3 * n) (3 * n + n) (sifted n t w₀ taken left j) w₀ w m) where
+    -- all are looked through
+    pub sifted-all : m ≤ j → j ≤ left → left ≤ j → Sifted n t w₀ w taken left m
+    sifted-all f b h =
+        let l = lefts-length in
+        let e : j ≡ length lefts = omega arith in
+        record {
+          fewer = omega arith;
+          holds = s .listed ∙ ap (joinedOf (byTable n t) (part w₀ n taken)) (ap (λ (i : ℕ). take i lefts) e ∙ take-length lefts);
+          kept = s .kept;
+        }
+
+    module _ (h : j < left) where
+      -- the rank that is looked at, which is as it was, and its vertex
+      rank-kept : getD w (2 * n + j) 0 ≡ getD w₀ (2 * n + j) 0
+      rank-kept = let k = a .few-left in s .kept .below (2 * n + j) (omega arith)
+
+      pub rank-small : getD w (2 * n + j) 0 < n
+      rank-small = let e = rank-kept in let l = a .left-ranks j h in omega arith
+
+      abbrev vertex : ℕ
+      vertex = getD ranks (getD w (2 * n + j) 0) 0
+
+      pub vertex-small : vertex < n
+      vertex-small = entry-below (a .ranked) (getD w (2 * n + j) 0) rank-small
+
+      vertex-is : vertex ≡ getD lefts j 0
+      vertex-is =
+          let l = part-full in
+          a .ranked .order (getD w (2 * n + j) 0) rank-small
+          ∙ ap (vertexAt (byTable n t)) (rank-kept ∙ sym (part-at w₀ (2 * n) left j h))
+          ∙ sym (map-at (vertexAt (byTable n t)) (part w₀ (2 * n) left) j (omega arith))
+
+      further : (b : Bool) → b ≡ joinedAll (byTable n t) vertex (part w n (n + taken - n))
+          → sifted n t w₀ taken left (j + 1) ≡ sifted n t w₀ taken left j ++ cond b (vertex ∷ []) []
+      further b e =
+          let l = lefts-length in
+          let us = part w₀ n taken in
+          ap (joinedOf (byTable n t) us) (ap (λ (i : ℕ). take i lefts) (add-one j) ∙ take-suc lefts j 0 (omega arith))
+          ∙ joinedOf-push (byTable n t) us (take j lefts) (getD lefts j 0)
+          ∙ ap (λ (v : ℕ). sifted n t w₀ taken left j ++ cond (joinedAll (byTable n t) v us) (v ∷ []) []) (sym vertex-is)
+          ∙ ap (λ (c : Bool). sifted n t w₀ taken left j ++ cond c (vertex ∷ []) [])
+          (ap (joinedAll (byTable n t) vertex) (sym (same-members n taken w₀ w (s .kept) (a .few-taken))) ∙ sym e)
+
+      -- it is written where it is joined to all, and else passed over
+      pub sifted-hit : m ≤ j → true ≡ joinedAll (byTable n t) vertex (part w n (n + taken - n))
+          → Listed (3 * n) (3 * n + n) (sifted n t w₀ taken left (j + 1)) w₀ (set w (3 * n + m) vertex) (m + 1)
+      sifted-hit f e = let k = a .few-left in let r = a .room in listed-push _ _ _ s vertex _ (further true e) (omega arith) (omega arith)
+
+      pub sifted-miss : false ≡ joinedAll (byTable n t) vertex (part w n (n + taken - n))
+          → Listed (3 * n) (3 * n + n) (sifted n t w₀ taken left (j + 1)) w₀ w m
+      sifted-miss e = listed-pass _ _ _ s _ (further false e ∙ append-nil _)
