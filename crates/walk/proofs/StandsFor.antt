@@ -158,8 +158,11 @@ module _ {n : ℕ} {t ranks : List ℕ} (R : HoldsRanks n t ranks) {w : List ℕ
 
 module _ {n : ℕ} {t ranks : List ℕ} (R : HoldsRanks n t ranks) where
   -- a degree, and the sum of the degrees of the taken vertices, are small
-  pub degree-small : (v : ℕ) → degree (byTable n t) v ≤ 1024
+  degree-small : (v : ℕ) → degree (byTable n t) v ≤ 1024
   degree-small v = let a = degree-le n t v in let b = R .fits .small in omega arith
+
+  pub degree-read : (v : ℕ) {e : ℕ} → e ≡ getD ranks (n + v) 0 → v < n → e ≤ 1024
+  degree-read v e h = let a = R .degrees v h in let b = degree-small v in omega arith
 
   pub sum-small : {p : Position} {w : List ℕ} {s : State} → Stands (byTable n t) p w s → s .sum ≤ 1048576
   sum-small {p} {w} {s} St =

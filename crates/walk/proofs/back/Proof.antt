@@ -57,7 +57,8 @@ slice-write-position c =
 open-ranks-requires : tie.Need-open-ranks-requires
 open-ranks-requires c κs =
     let q = c .before .before .before .before .before .before .before .before .before .before .before .before .before .before .pre in
-    (omega (arith, highest-decided (q .1) (q .2) (c .before .before .before .before .before .before .before .entry-at .ensures)), simp length-set (omega (arith, q .1 .bound, q .1 .long)))
+    let h = highest-decided (q .1) (q .2) (c .before .before .before .before .before .before .before .entry-at .ensures) in
+    (omega (arith, h), simp length-set (omega (arith, h, q .1 .bound, q .1 .long)))
 
 push-left-requires : tie.Need-push-left-requires
 push-left-requires c κs =

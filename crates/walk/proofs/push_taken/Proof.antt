@@ -3,7 +3,7 @@
 use native.Mathlib.Omega.{arith}
 use lib.ListN.{length-set}
 use Rattle.graph.proofs.Ranks.{entry-below}
-use Rattle.walk.proofs.StandsFor.{enough, taken-low, degree-small, sum-small}
+use Rattle.walk.proofs.StandsFor.{enough, taken-low, degree-read, sum-small}
 use Rattle.walk.proofs.RankPushed.{taken-pushed}
 use borrow.Author.Needs.{needs}
 use Rattle.walk.proofs.push_taken.Statement.{statement}
@@ -75,8 +75,8 @@ add-t22 : tie.Need-add-t22
 add-t22 c =
     let q = c .before .before .before .before .before .before .before .before .before .before .before .before .before .pre in
     let v = c .before .before .before .before .before .before .before .before .before .entry-at in
-    let e = q .0 .degrees (v .result) (omega (arith, entry-below (q .0) _ (q .2), v .ensures)) in
-    omega (arith, sum-small (q .0) (q .1 .1), degree-small (q .0) (v .result), c .before .before .before .before .before .before .before .before .entry-at2 .ensures)
+    let e = degree-read (q .0) _ (c .before .before .before .before .before .before .before .before .entry-at2 .ensures) (omega (arith, entry-below (q .0) _ (q .2), v .ensures, q .2)) in
+    omega (arith, sum-small (q .0) (q .1 .1))
 
 same-length : tie.Need-same-length
 same-length c = search needs
