@@ -1,4 +1,4 @@
-// What the program prints and how it lists a graph: everything of it that is a function, and the loop over its pages.
+// The program of document 01: its words, its text, and what it prints.
 pub mod program;
 pub mod verdict;
 pub mod words;

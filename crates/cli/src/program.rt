@@ -11,8 +11,8 @@ use crate::words::Words;
 use crate::words::settings_of;
 use isolation::Settings;
 use libc::STDIN_FILENO;
-use libc::STDOUT_FILENO;
 use listing::list_all;
+use listing::write_first;
 use print::end_line;
 use print::refused_line;
 
@@ -35,14 +35,14 @@ fn print_room() -> [u8; 49152]
     [0; 49152]
 }
 
-// A refusal prints only its line.
+// "A refusal prints only `refused NUMBER LINE`."
 fn refuse(number: u32, line: usize) {
     let mut bytes = [0u8; 40];
     let k = refused_line(number, line, &mut bytes);
-    io::write_all(STDOUT_FILENO, &bytes[..k]);
+    write_first(&bytes, k);
 }
 
-// Prints all groups of a graph, and then the totals.
+// Prints "one line a group", and then `end GROUPS STEPS`.
 fn list(table: &[u8], n: usize, s: Settings)
     requires { ⌜ Listable n (now table) (settingsOf s) ⌝ }
 {
@@ -60,7 +60,7 @@ fn list(table: &[u8], n: usize, s: Settings)
         s,
     );
     let k = end_line(t.groups, t.steps, &mut bytes);
-    io::write_all(STDOUT_FILENO, &bytes[..k]);
+    write_first(&bytes, k);
 }
 
 // Reads the text, of which one byte more than is allowed tells that it is too long, and lists its graph or refuses it.
@@ -87,7 +87,8 @@ fn after_name(count: usize) -> usize
     if count == 0 { 0 } else { count - 1 }
 }
 
-// The program. A word that is longer than its buffer is no number, and neither is the empty one that stands for it here.
+// The program: words first, then 41, then the text. A word that is longer than its buffer is no number, and neither is the empty one that
+// stands for it here.
 pub fn program() {
     let mut a = [0u8; 8];
     let mut b = [0u8; 8];

@@ -10,14 +10,14 @@ pub enum Verdict {
     Listing(usize),
 }
 
-// Whether a text of this length is too long.
+// 41: whether a text of this length is too long, "at most 65,536 bytes".
 pub fn text_too_long(length: usize) -> bool
     ensures { λ r. ⌜ r ≡ ltb 65536 length ⌝ }
 {
     65536 < length
 }
 
-// Reads a text into the program's table of 65,536 zeros: 41 where it is too long, then the reader's refusal.
+// Reads a text into the program's "table of 65,536 bytes", all 0: 41 where it is too long, then the reader's refusal.
 pub fn judge(text: &[u8], table: &mut [u8]) -> Verdict
     requires { ⌜ now table ≡ replicate 65536 0 ⌝ }
     ensures { λ r. ⌜ Judged (now (text .entry)) (now (table .exit)) r ⌝ }

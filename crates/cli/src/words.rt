@@ -10,8 +10,8 @@ pub enum Words {
     Chosen(Settings),
 }
 
-// The settings of three words, or the refusal of words that are not three, of one that is no number, or of the numbers' bounds. With another
-// count the words themselves may be anything.
+// The settings of three words, or their refusal: 32 their count and the form of a number, then 6, 7, 8. With another count the words
+// themselves may be anything.
 pub fn settings_of(count: usize, a: &[u8], b: &[u8], c: &[u8]) -> Words
     ensures { λ r. ⌜ WordsRead count (now (a .entry)) (now (b .entry)) (now (c .entry)) r ⌝ }
 {

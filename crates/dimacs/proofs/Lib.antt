@@ -1,2 +1,2 @@
--- Laws.
-pub mod Replies
+-- The laws from line to line.
+pub mod LineByLine

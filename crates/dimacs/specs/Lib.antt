@@ -1,2 +1,2 @@
--- Specs.
+-- What the text reader promises.
 pub mod Reply

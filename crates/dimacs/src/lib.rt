@@ -16,7 +16,7 @@ pub struct TextAnswer {
     pub line: usize,
 }
 
-// Refused: the bytes that a p line claimed become 0, and where none passed there are none.
+// Refused: "N and M are then 0. The table is unchanged if no p line passed, else its first N × N bytes, with that line's N, are 0."
 fn refuse(table: &mut [u8], s: State, number: u32, line: usize) -> TextAnswer
     requires { ⌜ Fit s (length (now table)) ⌝ }
     ensures { λ r. ⌜ TextReplies (refusedAt number line (readingOf s (now (table .entry))) (now (table .entry))) (now (table .exit)) r ⌝ }
@@ -31,7 +31,7 @@ fn refuse(table: &mut [u8], s: State, number: u32, line: usize) -> TextAnswer
     }
 }
 
-// The end of the text: 33 no p line, 39 M differs.
+// The end of the text: 33 no p line, 39 M differs, both with the line count plus 1; else number 0, N, M, line 0.
 fn finish(table: &mut [u8], s: State, line: usize) -> TextAnswer
     requires { ⌜ Fit s (length (now table)) ⌝ }
     ensures { λ r. ⌜ TextReplies (readFrom line (readingOf s (now (table .entry))) [] (now (table .entry))) (now (table .exit)) r ⌝ }
@@ -57,7 +57,7 @@ pub fn read_text(text: &[u8], table: &mut [u8]) -> TextAnswer
 {
     let mut s = State {
         passed: false,
-        vertices: 0,
+        vertices: 0, // no byte of the table is claimed before a p line
         stated: 0,
         edges: 0,
     };

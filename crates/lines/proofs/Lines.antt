@@ -1,21 +1,47 @@
 -- What the definition of a line's step comes to at each first letter. Assumes nothing.
-use Prim.Native.Nat.{ℕ, _≤_, _<_}
+use Prim.Native.Nat.{ℕ, _*_, _-_, _≤_, _<_}
 use mathlib.Core.Path.{_≡_, refl, sym, ap, ap₂, _∙_}
 use mathlib.Core.Bool.{Bool, true, false, _&&_, not, false≢true}
 use mathlib.Core.List.{List, [], _∷_, _++_}
 use native.Mathlib.Nat.{not-suc-le-zero}
 use native.Mathlib.Omega.{arith}
-use lib.ListN.{length, getD, take, drop, take-append-drop}
+use lib.ListN.{length, getD, take, drop, replicate, take-append-drop}
 use lib.Seq.{take-all, drop-cons}
-use lib.Dec.{eqb}
-use borrow.Author.Tests.{ne-eqb, eqb-true, not-true, not-false}
-use Rattle.model.specs.Text.{Reading, bad, next, fault, lineStep, unspaced, fieldsOf, pFields, eFields, pLine, eLine, same, two}
+use lib.Dec.{ltb, eqb}
+use borrow.Author.Tests.{ne-eqb, eqb-true, not-false}
+use Rattle.model.specs.Text.{Reading, Step, bad, next, fault, lineStep, unspaced, fieldsOf, pFields, eFields, pLine, eLine, same}
 use Rattle.number.specs.Field.{twoOf}
+use Rattle.number.proofs.Splits.{part-tail}
 use Rattle.lines.specs.Line.{FirstByte}
-use Rattle.number.proofs.Fields.{Fields, fields-some}
+use Rattle.theory.proofs.text.EdgeTextFields.{parted, Fields, fields-view, same-word}
+use Rattle.theory.proofs.text.EdgeTextStep.{outBy, repeatedBy, joinedBy}
+
+-- ---- a fault's test
+
+-- where the test says so, the step is at fault; else it is what the later tests say
+pub at-fault : {k : ℕ} {b : Bool} (later : Step) {x : Step} → fault k b later ≡ x → b ≡ true → bad k ≡ x
+unfolding fault
+at-fault {k} later e t = ap (λ (c : Bool). fault k c later) (sym t) ∙ e
+
+pub past-fault : (k : ℕ) {b : Bool} {later x : Step} → fault k b later ≡ x → b ≡ false → later ≡ x
+unfolding fault
+past-fault k {later = later} e t = ap (λ (c : Bool). fault k c later) (sym t) ∙ e
+
+-- an e line's tests: 36, 37 and 38
+pub edge-tests : (r : Reading) (u v : ℕ) → fault 36 (outBy (r .vertices) u v) (fault 37 (eqb u v) (fault 38 (repeatedBy r u v) (next (joinedBy r u v)))) ≡ eLine r u v
+unfolding eLine
+edge-tests r u v = refl
+
+-- a p line's tests: 35 and 40
+pub problem-tests : (room n m : ℕ) →
+    fault 35 (ltb 1024 n) (fault 40 (ltb room (n * n)) (next (record { passed = true; vertices = n; stated = m; edges = 0; table = replicate (n * n) 0 })))
+    ≡ pLine room n m
+unfolding pLine
+problem-tests room n m = refl
 
 -- ---- the byte after the first letter
 
+-- a line of one byte has none
 pub short-unspaced : (line : List ℕ) → length line < 2 → unspaced (drop 1 line) ≡ true
 unfolding unspaced
 short-unspaced [] h = refl
@@ -28,13 +54,7 @@ second-unspaced [] h = absurd (omega arith)
 second-unspaced (x ∷ []) h = absurd (omega arith)
 second-unspaced (x ∷ y ∷ l) h = refl
 
--- what the test for a space says of the definition
-pub unspaced-true : (b : Bool) (line : List ℕ) → b ≡ not (unspaced (drop 1 line)) → b ≡ false → unspaced (drop 1 line) ≡ true
-unspaced-true b line e h = not-false (unspaced (drop 1 line)) (sym e ∙ h)
-
-pub unspaced-false : (b : Bool) (line : List ℕ) → b ≡ not (unspaced (drop 1 line)) → b ≡ true → unspaced (drop 1 line) ≡ false
-unspaced-false b line e h = not-true (unspaced (drop 1 line)) (sym e ∙ h)
-
+-- a space after it is a second byte
 pub spaced-long : (line : List ℕ) → unspaced (drop 1 line) ≡ false → 2 ≤ length line
 unfolding unspaced
 spaced-long [] e = absurd (false≢true (sym e))
@@ -85,9 +105,13 @@ edge-two r f (a ∷ []) = refl
 edge-two r f (a ∷ b ∷ []) = refl
 edge-two r f (a ∷ b ∷ g ∷ fs) = refl
 
-pub edge-fields : (r : Reading) (line : List ℕ) → FirstByte 101 line → unspaced (drop 1 line) ≡ false → eFields r (fieldsOf line) ≡ twoOf (fieldsOf (drop 2 line)) (eLine r)
+-- U and V stand after the letter and its space
+pub edge-fields : (r : Reading) {line : List ℕ} → FirstByte 101 line → unspaced (drop 1 line) ≡ false
+    → twoOf (fieldsOf (take (length line - 2) (drop 2 line))) (eLine r) ≡ eFields r (fieldsOf line)
 unfolding fieldsOf
-edge-fields r line h e = ap (λ (l : List ℕ). eFields r (fieldsOf l)) (spaced-line 101 line h e) ∙ edge-two r (101 ∷ []) (fieldsOf (drop 2 line))
+edge-fields r {line} h e =
+    ap (λ (l : List ℕ). twoOf (fieldsOf l) (eLine r)) (part-tail line 2)
+    ∙ sym (ap (λ (l : List ℕ). eFields r (fieldsOf l)) (spaced-line 101 line h e) ∙ edge-two r (101 ∷ []) (fieldsOf (drop 2 line)))
 
 -- ---- a p line's fields
 
@@ -111,16 +135,10 @@ problem-two room f w (a ∷ []) = fault-either (same w edge-word)
 problem-two room f w (a ∷ b ∷ []) = refl
 problem-two room f w (a ∷ b ∷ g ∷ fs) = fault-either (same w edge-word)
 
-same-equal : (w v : List ℕ) → same w v ≡ true → w ≡ v
-unfolding same
-same-equal [] [] e = refl
-same-equal [] (y ∷ v) e = absurd (false≢true e)
-same-equal (x ∷ w) [] e = absurd (false≢true e)
-same-equal (x ∷ w) (y ∷ v) e = go (eqb x y) refl (same-equal w v) e
-  where
-    go : (b : Bool) → eqb x y ≡ b → (same w v ≡ true → w ≡ v) → (b && same w v) ≡ true → x ∷ w ≡ y ∷ v
-    go true q tail h = rw (eqb-true x y q, tail h)
-    go false q tail h = absurd (false≢true h)
+-- a line whose second field is `edge`
+edge-first : (fs : List (List ℕ)) → take 4 (parted edge-word fs) ≡ edge-word
+edge-first [] = refl
+edge-first (f ∷ fs) = refl
 
 -- a line that starts otherwise
 pub problem-other : (room : ℕ) (line : List ℕ) → FirstByte 112 line → unspaced (drop 1 line) ≡ false → (take 6 line ≡ p-edge → ⊥) → bad 32 ≡ pFields room (fieldsOf line)
@@ -129,17 +147,20 @@ problem-other room line h e other =
     sym
     (ap (λ (l : List ℕ). pFields room (fieldsOf l)) (spaced-line 112 line h e)
     ∙ ap (λ (fs : List (List ℕ)). pFields room ((112 ∷ []) ∷ fs)) (r .are)
-    ∙ problem-two room (112 ∷ []) (r .head) (r .tail)
-    ∙ go (same (r .head) edge-word) refl)
+    ∙ problem-two room (112 ∷ []) (r .field) (r .more)
+    ∙ go (same (r .field) edge-word) refl)
   where
     r : Fields (drop 2 line)
-    r = fields-some (drop 2 line)
+    r = fields-view (drop 2 line)
 
-    starts : r .head ≡ edge-word → take 6 line ≡ p-edge
-    starts w = ap (λ (l : List ℕ). take 6 l) (spaced-line 112 line h e) ∙ ap (λ (l : List ℕ). 112 ∷ 32 ∷ l) (ap (λ (v : List ℕ). take (length v) (drop 2 line)) (sym w) ∙ r .starts ∙ w)
+    starts : r .field ≡ edge-word → take 6 line ≡ p-edge
+    starts w =
+        ap (λ (l : List ℕ). take 6 l) (spaced-line 112 line h e)
+        ∙ ap (λ (l : List ℕ). 112 ∷ 32 ∷ take 4 l) (r .bytes ∙ ap (λ (v : List ℕ). parted v (r .more)) w)
+        ∙ ap (λ (l : List ℕ). 112 ∷ 32 ∷ l) (edge-first (r .more))
 
-    go : (b : Bool) → same (r .head) edge-word ≡ b → fault 32 (not b) (twoOf (r .tail) (pLine room)) ≡ bad 32
-    go true q = absurd (other (starts (same-equal (r .head) edge-word q)))
+    go : (b : Bool) → same (r .field) edge-word ≡ b → fault 32 (not b) (twoOf (r .more) (pLine room)) ≡ bad 32
+    go true q = absurd (other (starts (same-word (r .field) edge-word q)))
     go false q = refl
 
 -- nothing after the six bytes
@@ -157,61 +178,21 @@ problem-unspaced room line s h joined =
     sym
     (ap (λ (l : List ℕ). pFields room (fieldsOf l)) (after-p-edge line s h)
     ∙ ap (λ (fs : List (List ℕ)). pFields room ((112 ∷ []) ∷ fs)) (longer (getD line 6 0) (drop 7 line) joined)
-    ∙ problem-two room (112 ∷ []) (101 ∷ 100 ∷ 103 ∷ 101 ∷ getD line 6 0 ∷ r .head) (r .tail)
+    ∙ problem-two room (112 ∷ []) (101 ∷ 100 ∷ 103 ∷ 101 ∷ getD line 6 0 ∷ r .field) (r .more)
     ∙ refl)
   where
     r : Fields (drop 7 line)
-    r = fields-some (drop 7 line)
+    r = fields-view (drop 7 line)
 
-    longer : (x : ℕ) (l : List ℕ) → (x ≡ 32 → ⊥) → fieldsOf (101 ∷ 100 ∷ 103 ∷ 101 ∷ x ∷ l) ≡ (101 ∷ 100 ∷ 103 ∷ 101 ∷ x ∷ fields-some l .head) ∷ fields-some l .tail
-    longer x l ne = rw (ne-eqb x 32 ne, fields-some l .are)
+    longer : (x : ℕ) (l : List ℕ) → (x ≡ 32 → ⊥) → fieldsOf (101 ∷ 100 ∷ 103 ∷ 101 ∷ x ∷ l) ≡ (101 ∷ 100 ∷ 103 ∷ 101 ∷ x ∷ fields-view l .field) ∷ fields-view l .more
+    longer x l ne = rw (ne-eqb x 32 ne, fields-view l .are)
 
 -- a space, and then two numbers
-pub problem-fields : (room : ℕ) (line : List ℕ) → take 6 line ≡ p-edge → 7 ≤ length line → getD line 6 0 ≡ 32 → pFields room (fieldsOf line) ≡ twoOf (fieldsOf (drop 7 line)) (pLine room)
+pub problem-fields : (room : ℕ) (line : List ℕ) → take 6 line ≡ p-edge → 7 ≤ length line → getD line 6 0 ≡ 32
+    → twoOf (fieldsOf (take (length line - 7) (drop 7 line))) (pLine room) ≡ pFields room (fieldsOf line)
 unfolding fieldsOf same fault
 problem-fields room line s h e =
-    ap (λ (l : List ℕ). pFields room (fieldsOf l)) (after-p-edge line s h ∙ ap (λ (x : ℕ). p-edge ++ x ∷ drop 7 line) e)
-    ∙ problem-two room (112 ∷ []) edge-word (fieldsOf (drop 7 line))
-
--- ---- a line by its tests
-
-module _ (room : ℕ) (r : Reading) (line : List ℕ) (h : FirstByte 101 line) where
-  pub edge-31 : unspaced (drop 1 line) ≡ true → bad 31 ≡ lineStep room r line
-  unfolding fault
-  edge-31 u = rw u at (line-edge room r line h)
-
-  pub edge-33 : unspaced (drop 1 line) ≡ false → r .passed ≡ false → bad 33 ≡ lineStep room r line
-  unfolding fault
-  edge-33 u p = ap (λ (b : Bool). fault 33 (not b) (eFields r (fieldsOf line))) (sym p) ∙ (rw u at (line-edge room r line h))
-
-  pub edge-goes : unspaced (drop 1 line) ≡ false → r .passed ≡ true → twoOf (fieldsOf (drop 2 line)) (eLine r) ≡ lineStep room r line
-  unfolding fault
-  edge-goes u p = sym (edge-fields r line h u) ∙ ap (λ (b : Bool). fault 33 (not b) (eFields r (fieldsOf line))) (sym p) ∙ (rw u at (line-edge room r line h))
-
-module _ (room : ℕ) (r : Reading) (line : List ℕ) (h : FirstByte 112 line) where
-  pub problem-31 : unspaced (drop 1 line) ≡ true → bad 31 ≡ lineStep room r line
-  unfolding fault
-  problem-31 u = rw u at (line-problem room r line h)
-
-  pub problem-34 : unspaced (drop 1 line) ≡ false → r .passed ≡ true → bad 34 ≡ lineStep room r line
-  unfolding fault
-  problem-34 u p = ap (λ (b : Bool). fault 34 b (pFields room (fieldsOf line))) (sym p) ∙ (rw u at (line-problem room r line h))
-
-  pub problem-goes : unspaced (drop 1 line) ≡ false → r .passed ≡ false → pFields room (fieldsOf line) ≡ lineStep room r line
-  unfolding fault
-  problem-goes u p = ap (λ (b : Bool). fault 34 b (pFields room (fieldsOf line))) (sym p) ∙ (rw u at (line-problem room r line h))
-
--- a comment, as the test for one says
-module _ (room : ℕ) (r : Reading) (line : List ℕ) (h : FirstByte 99 line) (b : Bool)
-    (e : b ≡ not (not (eqb (length (drop 1 line)) 0) && unspaced (drop 1 line))) where
-  pub comment-passes : b ≡ true → next r ≡ lineStep room r line
-  unfolding fault
-  comment-passes q =
-      let x : (not (eqb (length (drop 1 line)) 0) && unspaced (drop 1 line)) ≡ false = not-true _ (sym e ∙ q) in
-      ap (λ (b : Bool). fault 31 b (next r)) (sym x) ∙ line-comment room r line h
-
-  pub comment-31 : b ≡ false → bad 31 ≡ lineStep room r line
-  unfolding fault
-  comment-31 q =
-      let x : (not (eqb (length (drop 1 line)) 0) && unspaced (drop 1 line)) ≡ true = not-false _ (sym e ∙ q) in
-      ap (λ (b : Bool). fault 31 b (next r)) (sym x) ∙ line-comment room r line h
+    ap (λ (l : List ℕ). twoOf (fieldsOf l) (pLine room)) (part-tail line 7)
+    ∙ sym
+    (ap (λ (l : List ℕ). pFields room (fieldsOf l)) (after-p-edge line s h ∙ ap (λ (x : ℕ). p-edge ++ x ∷ drop 7 line) e)
+    ∙ problem-two room (112 ∷ []) edge-word (fieldsOf (drop 7 line)))

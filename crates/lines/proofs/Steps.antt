@@ -7,12 +7,16 @@ use native.Mathlib.Numerals.{add-one}
 use native.Mathlib.Omega.{arith}
 use lib.ListN.{length, getD, take, drop, set, replicate, length-replicate}
 use lib.Seq.{getD-take, take-set-lt, drop-set-lt, take-at, drop-at}
-use Rattle.model.specs.Text.{Step, bad, next, eLine, pLine, joinPair}
+use borrow.Author.Tests.{ne-eqb, le-ltb}
+use Rattle.model.specs.Text.{Step, bad, next, fault, eLine, pLine, joinPair}
+use Rattle.model.specs.EdgeText.{Ends}
+use Rattle.theory.proofs.text.EdgeTextStep.{repeatedBy, joinedBy}
 use Rattle.lines.specs.Line.{readingOf, start, Fit, LineRead}
 use Rattle.lines.specs.declared.State.{State}
 use Rattle.lines.specs.declared.Line.{Line}
 use Rattle.lines.specs.declared.Line.the-variants.{Bad, Next}
-use Rattle.lines.proofs.Cells.{Ranged, cell, turned, edge-again, edge-joined, problem-passed}
+use Rattle.lines.proofs.Cells.{cell, turned}
+use Rattle.lines.proofs.Lines.{past-fault, problem-tests}
 
 -- the same promise of an equal step, and of an equal answer
 pub stepped-as : {x y : Step} {s : State} {t t' : List ℕ} {r : Line} → LineRead x s t t' r → x ≡ y → LineRead y s t t' r
@@ -31,47 +35,42 @@ unchanged f e = record { step = e; kept = record { fit = f; rest = refl; grows =
 
 -- ---- an e line in form, of two vertices
 
-module _ (s : State) (t : List ℕ) (u v : ℕ) (fit : Fit s (length t)) (h : Ranged (s .vertices) u v) where
-  -- the table's byte is the slice's
-  table-byte : getD (take (s .vertices * s .vertices) t) ((u - 1) * s .vertices + (v - 1)) 0 ≡ getD t ((u - 1) * s .vertices + (v - 1)) 0
-  table-byte = getD-take (s .vertices * s .vertices) t ((u - 1) * s .vertices + (v - 1)) 0 (cell (s .vertices) u v h)
+-- the table's byte of a pair is the slice's
+pub table-byte : {n u v : ℕ} (t : List ℕ) → Ends n u v → getD (take (n * n) t) ((u - 1) * n + (v - 1)) 0 ≡ getD t ((u - 1) * n + (v - 1)) 0
+table-byte {n} {u} {v} t h = getD-take (n * n) t ((u - 1) * n + (v - 1)) 0 (cell h)
 
-  pub repeated : (u ≡ v → ⊥) → getD t ((u - 1) * s .vertices + (v - 1)) 0 ≡ 1 → bad 38 ≡ eLine (readingOf s t) u v
-  repeated e f = edge-again (readingOf s t) u v h e (table-byte ∙ f)
-
-  -- both cells are set, within the table
-  pub joined : (u ≡ v → ⊥) → (getD t ((u - 1) * s .vertices + (v - 1)) 0 ≡ 1 → ⊥) →
-      LineRead (eLine (readingOf s t) u v) s t (set (set t ((u - 1) * s .vertices + (v - 1)) 1) ((v - 1) * s .vertices + (u - 1)) 1)
-      (Next (record { passed = true; vertices = s .vertices; stated = s .stated; edges = s .edges + 1 }))
-  unfolding joinPair
-  joined e f =
-      let area = s .vertices * s .vertices in
-      let a = (u - 1) * s .vertices + (v - 1) in
-      let b = (v - 1) * s .vertices + (u - 1) in
-      let wa = cell (s .vertices) u v h in
-      let wb = cell (s .vertices) v u (turned h) in
-      record {
-        step =
-            rw (add-one (s .edges), take-set-lt area (set t a 1) b 1 wb, take-set-lt area t a 1 wa)
-            (edge-joined (readingOf s t) u v h e (λ g. f (sym table-byte ∙ g)));
-        kept =
-            record {
-              fit = record { small = fit .small; area = fit .area; stated = fit .stated; fresh = λ q. absurd (false≢true (sym q)) };
-              rest = drop-set-lt area (set t a 1) b 1 wb ∙ drop-set-lt area t a 1 wa;
-              grows = omega arith;
-              counted = omega arith;
-            };
-      }
+-- both cells are set, within the table
+pub joined : {s : State} {t : List ℕ} {u v : ℕ} → Ends (s .vertices) u v → Fit s (length t) → (getD t ((u - 1) * s .vertices + (v - 1)) 0 ≡ 1 → ⊥)
+    → fault 38 (repeatedBy (readingOf s t) u v) (next (joinedBy (readingOf s t) u v)) ≡ eLine (readingOf s t) u v →
+    LineRead (eLine (readingOf s t) u v) s t (set (set t ((u - 1) * s .vertices + (v - 1)) 1) ((v - 1) * s .vertices + (u - 1)) 1)
+    (Next (record { passed = true; vertices = s .vertices; stated = s .stated; edges = s .edges + 1 }))
+unfolding joinPair
+joined {s} {t} {u} {v} h fit new e =
+    let area = s .vertices * s .vertices in
+    let a = (u - 1) * s .vertices + (v - 1) in
+    let b = (v - 1) * s .vertices + (u - 1) in
+    let wa = cell h in
+    let wb = cell (turned h) in
+    record {
+      step = rw (add-one (s .edges), take-set-lt area (set t a 1) b 1 wb, take-set-lt area t a 1 wa) (past-fault _ e (ne-eqb _ 1 (λ q. new (sym (table-byte t h) ∙ q))));
+      kept =
+          record {
+            fit = record { small = fit .small; area = fit .area; stated = fit .stated; fresh = λ q. absurd (false≢true (sym q)) };
+            rest = drop-set-lt area (set t a 1) b 1 wb ∙ drop-set-lt area t a 1 wa;
+            grows = omega arith;
+            counted = omega arith;
+          };
+    }
 
 -- ---- a p line in form
 
 -- the slice's first N × N bytes are 0
-pub cleared : (t t' : List ℕ) (n m : ℕ) → n ≤ 1024 → n * n ≤ length t → m < 1000000 → t' ≡ replicate (n * n) 0 ++ drop (n * n) t →
+pub cleared : {t t' : List ℕ} {n m : ℕ} → n ≤ 1024 → n * n ≤ length t → m < 1000000 → t' ≡ replicate (n * n) 0 ++ drop (n * n) t →
     LineRead (pLine (length t) n m) start t t' (Next (record { passed = true; vertices = n; stated = m; edges = 0 }))
-cleared t t' n m h g k e =
+cleared {t} {t'} {n} {m} h g k e =
     let zeros = length-replicate {A = ℕ} (n * n) 0 in
     record {
-      step = rw (e, take-at (replicate (n * n) 0) (drop (n * n) t) (n * n) zeros) (problem-passed (length t) n m h g);
+      step = rw (e, take-at (replicate (n * n) 0) (drop (n * n) t) (n * n) zeros) (past-fault _ (past-fault _ (problem-tests (length t) n m) (le-ltb 1024 n h)) (le-ltb (length t) (n * n) g));
       kept =
           record {
             fit = record { small = h; area = g; stated = k; fresh = λ q. absurd (false≢true (sym q)) };

@@ -1,2 +1,2 @@
--- Specs.
+-- What the readers of a line promise.
 pub mod Line

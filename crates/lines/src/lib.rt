@@ -1,4 +1,4 @@
-// One line of the text.
+// One line of the text: what it says, or its fault by document 01's number and in its order.
 pub mod table;
 
 ghost use mathlib.Core.Path.{_≡_};
@@ -24,7 +24,7 @@ pub enum Line {
     Next(State),
 }
 
-// Whether a line starts with these bytes.
+// Whether a line starts with these bytes, as a p line "starts with the six bytes `p edge`".
 fn starts(line: &[u8], head: &[u8]) -> bool
     ensures { λ r. ⌜ (r ≡ true → take (length (now (head .entry))) (now (line .entry)) ≡ now (head .entry)) × (take (length (now (head .entry))) (now (line .entry)) ≡ now (head .entry) → r ≡ true) ⌝ }
 {
@@ -35,24 +35,24 @@ fn starts(line: &[u8], head: &[u8]) -> bool
     check::same(&line[..k], head)
 }
 
-// Whether a space stands after the first letter.
-fn spaced(line: &[u8]) -> bool
-    ensures { λ r. ⌜ r ≡ not (unspaced (drop 1 (now (line .entry)))) ⌝ }
+// Whether no space stands after the first letter, which is 31.
+fn unspaced(line: &[u8]) -> bool
+    ensures { λ r. ⌜ r ≡ unspaced (drop 1 (now (line .entry))) ⌝ }
 {
     if line.len() < 2 {
-        return false;
+        return true;
     }
-    line[1] == b' '
+    line[1] != b' '
 }
 
-// Whether a line that starts with c is a comment: c alone, or c and a space.
+// Whether a line that starts with c is a comment: "`c` alone, `c` with a space and any bytes".
 fn comment(line: &[u8]) -> bool
     ensures { λ r. ⌜ r ≡ not (not (eqb (length (drop 1 (now (line .entry)))) 0) && unspaced (drop 1 (now (line .entry)))) ⌝ }
 {
     if line.len() < 2 {
         return true;
     }
-    spaced(line)
+    !unspaced(line)
 }
 
 // A p line's numbers: 35 N over 1,024; 40 table under N × N.
@@ -84,18 +84,18 @@ fn edge(table: &mut [u8], s: State, u: usize, v: usize) -> Line
 {
     let n = s.vertices;
     if u == 0 {
-        return Line::Bad(36);
+        return Line::Bad(36); // U is 0
     }
     let a = u - 1;
     if n <= a {
-        return Line::Bad(36);
+        return Line::Bad(36); // U is over N
     }
     if v == 0 {
-        return Line::Bad(36);
+        return Line::Bad(36); // V is 0
     }
     let b = v - 1;
     if n <= b {
-        return Line::Bad(36);
+        return Line::Bad(36); // V is over N
     }
     if a == b {
         return Line::Bad(37);
@@ -121,7 +121,7 @@ fn problem_line(line: &[u8], table: &mut [u8], s: State) -> Line
     requires { ⌜ Fit s (length (now table)) ⌝ }
     ensures { λ r. ⌜ LineRead (lineStep (length (now (table .entry))) (readingOf s (now (table .entry))) (now (line .entry))) s (now (table .entry)) (now (table .exit)) r ⌝ }
 {
-    if !spaced(line) {
+    if unspaced(line) {
         return Line::Bad(31);
     }
     let second = s.passed;
@@ -151,7 +151,7 @@ fn edge_line(line: &[u8], table: &mut [u8], s: State) -> Line
     requires { ⌜ s .edges + 1 < 2 ^ 64 ⌝ }
     ensures { λ r. ⌜ LineRead (lineStep (length (now (table .entry))) (readingOf s (now (table .entry))) (now (line .entry))) s (now (table .entry)) (now (table .exit)) r ⌝ }
 {
-    if !spaced(line) {
+    if unspaced(line) {
         return Line::Bad(31);
     }
     if !s.passed {

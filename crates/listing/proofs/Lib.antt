@@ -1,2 +1,2 @@
--- Laws.
-pub mod Paging
+-- The laws from page to page.
+pub mod PageByPage

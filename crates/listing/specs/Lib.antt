@@ -1,2 +1,2 @@
--- Specs.
+-- What the listing of a graph promises.
 pub mod List

@@ -8,12 +8,13 @@ use lib.ListN.{length, take}
 use lib.Dec.{eqb}
 use Rattle.model.specs.Graph.{byTable}
 use Rattle.model.specs.Groups.{Settings}
-use Rattle.model.specs.Walk.{Position, fresh, lasts, fullSets, fullList, stoppedFinished}
+use Rattle.model.specs.Walk.{Position, fresh, lasts, fullSets, stoppedFinished}
 use Rattle.model.specs.Listing.{rules}
 use Rattle.model.specs.Calls.{refuseTable, refuseSettings, PageReply, pageCall}
 use Rattle.model.specs.Demand.{leftAt, allSteps, allGroups, SomeFinished}
-use Rattle.model.specs.Program.{printed, printedPages, held}
-use Rattle.theory.proofs.calls.Pages.{Chain}
+use Rattle.model.specs.Program.{groupLines, held}
+use Rattle.theory.specs.Replies.{Chain}
+use Rattle.theory.specs.Printed.{printed, printedPages}
 use Rattle.listing.specs.declared.Turn.{Turn}
 use Rattle.listing.specs.declared.totals.Totals.{Totals}
 use Rattle.print.specs.Put.{Puts}
@@ -53,14 +54,14 @@ pub record Paged (n : ℕ) (t : List ℕ) (s : Settings) (p : Position) (groups 
   pub all-groups : groups ≡ held (allGroups replies)
   pub all-steps : steps ≡ held (allSteps replies)
 
--- The replies to page calls, from fresh on, of which one has said Finished: what is printed of them is what is printed of the full list. The totals
--- are theirs, and so the number of groups of the full list and the walk's length, both held.
+-- The replies to page calls, from fresh on, of which one has said Finished: what is printed of them is a line for each group of the full list. The
+-- totals are theirs, and so the number of groups of the full list and the walk's length, both held.
 pub record Ran (n : ℕ) (t : List ℕ) (s : Settings) (r : Totals) : Type 0 where
   pub replies : List PageReply
   pub chain : Chain (rules (byTable n t) s) (fresh n) replies
   pub ended : SomeFinished replies
   pub all-groups : r .groups ≡ held (allGroups replies)
   pub all-steps : r .steps ≡ held (allSteps replies)
-  pub pages : printedPages replies ≡ printed (fullList (rules (byTable n t) s) n)
+  pub pages : printedPages replies ≡ groupLines (byTable n t) (fullSets (rules (byTable n t) s) n)
   pub full-groups : r .groups ≡ held (length (fullSets (rules (byTable n t) s) n))
   pub full-steps : (k : ℕ) × (lasts (rules (byTable n t) s) k (fresh n) ≡ true) × (r .steps ≡ held k)

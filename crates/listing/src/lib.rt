@@ -11,6 +11,13 @@ use isolation::Settings;
 use libc::STDOUT_FILENO;
 use print::print_entries;
 
+// Writes the first k bytes of a buffer to standard output.
+pub fn write_first(bytes: &[u8], k: usize)
+    requires { ⌜ k ≤ length (now bytes) ⌝ }
+{
+    io::write_all(STDOUT_FILENO, &bytes[..k]);
+}
+
 // What a page brought: whether it said Finished, its groups and steps, and how many bytes are printed of it.
 pub struct Turn {
     pub finished: bool,
@@ -72,7 +79,7 @@ pub fn list_all(
     let mut steps: u32 = 0;
     loop {
         let t = one_page(table, position, output, work, bytes, n, s);
-        io::write_all(STDOUT_FILENO, &bytes[..t.printed]);
+        write_first(bytes, t.printed);
         groups = held_add(groups, t.groups);
         steps = held_add(steps, t.steps);
         if t.finished {

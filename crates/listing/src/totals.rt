@@ -9,7 +9,7 @@ pub struct Totals {
     pub steps: u32,
 }
 
-// A total with more added, which stays at 4,294,967,295 once it would pass it.
+// A total with more added: "Both totals stay at 4,294,967,295 once they would pass it."
 pub fn held_add(total: u32, more: u32) -> u32
     ensures { λ r. ⌜ r ≡ held (total + more) ⌝ }
 {

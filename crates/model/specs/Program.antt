@@ -9,9 +9,9 @@ use lib.ListN.{length, take, replicate}
 use lib.Dec.{ltb}
 use Rattle.model.specs.Graph.{Graph, byTable}
 use Rattle.model.specs.Groups.{Settings}
-use Rattle.model.specs.Walk.{Position, fresh, lasts, fullSets, fullList}
+use Rattle.model.specs.Walk.{Position, fresh, lasts, fullSets}
 use Rattle.model.specs.Listing.{takenList, rules}
-use Rattle.model.specs.Calls.{refuseSettings, PageReply}
+use Rattle.model.specs.Calls.{refuseSettings}
 use Rattle.model.specs.Text.{numberOf, TextReply, readText}
 
 -- ---- words
@@ -67,24 +67,6 @@ unfoldable pub groupLines : Graph → List Position → List ℕ
 groupLines G [] = []
 groupLines G (p ∷ ps) = groupLine (takenList G p) ++ groupLines G ps
 
--- what is printed of output entries with so many vertices of the record at hand still to come: a space between two of them, byte 10 after the last
-unfoldable pub printedFrom : ℕ → List ℕ → List ℕ
-printedFrom zero [] = []
-printedFrom zero (zero ∷ es) = 10 ∷ printedFrom zero es
-printedFrom zero (suc k ∷ es) = printedFrom (suc k) es
-printedFrom (suc k) [] = []
-printedFrom (suc zero) (v ∷ es) = numeral (suc v) ++ (10 ∷ printedFrom zero es)
-printedFrom (suc (suc k)) (v ∷ es) = numeral (suc v) ++ (32 ∷ printedFrom (suc k) es)
-
--- what is printed of a page's output entries: a line for each record
-unfoldable pub printed : List ℕ → List ℕ
-printed es = printedFrom 0 es
-
--- what is printed page by page: of each reply its used entries
-unfoldable pub printedPages : List PageReply → List ℕ
-printedPages [] = []
-printedPages (r ∷ rs) = printed (take (r .used) (r .output)) ++ printedPages rs
-
 -- a total, which stays at 4,294,967,295 once it would pass it
 abbrev pub held : ℕ → ℕ
 held total = min total 4294967295
@@ -130,7 +112,7 @@ unfoldable pub PrintsAt : Verdict → List ℕ → Type 0
 PrintsAt (refusal k line) out = out ≡ refusedLine k line
 PrintsAt (listing s n t) out =
     let R = rules (byTable n t) s in
-    (steps : ℕ) × (lasts R steps (fresh n) ≡ true) × (out ≡ printed (fullList R n) ++ endLine (held (length (fullSets R n))) (held steps))
+    (steps : ℕ) × (lasts R steps (fresh n) ≡ true) × (out ≡ groupLines (byTable n t) (fullSets R n) ++ endLine (held (length (fullSets R n))) (held steps))
 
 -- the program, given these words and this text on standard input, prints these bytes
 abbrev pub Prints : List (List ℕ) → List ℕ → List ℕ → Type 0

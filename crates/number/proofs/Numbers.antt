@@ -1,6 +1,6 @@
 -- Digits and the numbers they make. Assumes nothing.
-use Prim.Native.Nat.{ℕ, zero, _+_, _*_, _-_, _≤_, _<_, _^_}
-use mathlib.Core.Path.{_≡_, sym, ap, _∙_}
+use Prim.Native.Nat.{ℕ, _+_, _*_, _-_, _≤_, _<_, _^_}
+use mathlib.Core.Path.{_≡_, sym, ap, subst, _∙_}
 use mathlib.Core.Bool.{true, false, _&&_, and-false, and-true, or-true}
 use mathlib.Core.List.{List, [], _∷_}
 use mathlib.Core.Option.{Option, none, some}
@@ -12,7 +12,9 @@ use lib.Seq.{drop-cons}
 use lib.Dec.{leb, eqb}
 use borrow.Author.Tests.{le-leb, lt-leb, ne-eqb}
 use Rattle.model.specs.Text.{digits, decimal, numberOf}
-use Rattle.number.specs.Field.{digitsOf}
+use Rattle.number.specs.declared.Field.{Field}
+use Rattle.number.specs.declared.Pair.{Pair}
+use Rattle.number.specs.Field.{NumberRead, digitsOf, PairRead}
 
 -- ---- a digit at a place
 
@@ -100,3 +102,12 @@ module _ (f : List ℕ) where
   pub number-digits : 0 < length f → length f ≤ 6 → (getD f 0 0 ≡ 48 → ⊥) → digitsOf f ≡ numberOf f
   unfolding numberOf
   number-digits h l e = rw (le-leb 1 (length f) h, le-leb (length f) 6 l, ne-eqb (getD f 0 0) 48 e, or-true (eqb (length f) 1), and-true (digits f))
+
+-- ---- a field, or two, as they were read
+
+-- what was read, by the case that it turned out to be
+pub read-as : {f g : Field} {word : Option ℕ} → f ≡ g → NumberRead word f → NumberRead word g
+read-as {word = word} e r = subst (NumberRead word) e r
+
+pub pair-as : {p q : Pair} {part : List ℕ} → p ≡ q → PairRead part p → PairRead part q
+pair-as {part = part} e r = subst (PairRead part) e r

@@ -1,2 +1,2 @@
--- Specs.
+-- What the readers of fields and numbers promise.
 pub mod Field

@@ -1,4 +1,4 @@
-// Fields and numbers: a field ends before a space or with its line, and a number is 1 to 6 digits without leading zero except 0 itself.
+// Fields and numbers of document 01, in the lines of the text and in the program's words.
 pub mod scan;
 
 ghost use mathlib.Core.Path.{_≡_};
@@ -26,7 +26,7 @@ fn wide(b: u8) -> usize
     b as usize
 }
 
-// The number of a field of 1 to 6 bytes, which are to be digits.
+// "A number is 1 to 6 digits, decimal": the number of a field of at most 6 bytes, which are to be digits.
 fn digits(field: &[u8]) -> Field
     requires { ⌜ length (now field) ≤ 6 ⌝ }
     ensures { λ r. ⌜ NumberRead (digitsOf (now (field .entry))) r ⌝ }
@@ -48,7 +48,7 @@ fn digits(field: &[u8]) -> Field
     Field::Number(value)
 }
 
-// The number of a field.
+// The number of a field: 1 to 6 digits "without leading zero except 0 itself".
 pub fn number(field: &[u8]) -> Field
     ensures { λ r. ⌜ NumberRead (numberOf (now (field .entry))) r ⌝ }
 {
@@ -72,7 +72,7 @@ pub fn number(field: &[u8]) -> Field
     }
 }
 
-// Two numbers parted by one space.
+// "Fields are parted by one space": two numbers, as N and M or U and V.
 pub fn two_numbers(part: &[u8]) -> Pair
     ensures { λ r. ⌜ PairRead (now (part .entry)) r ⌝ }
 {

@@ -1,2 +1,2 @@
--- Specs.
+-- What the functions that put bytes into a buffer promise.
 pub mod Put

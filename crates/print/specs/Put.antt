@@ -3,7 +3,8 @@ use Prim.Native.Nat.{ℕ, _+_, _≤_}
 use mathlib.Core.Path.{_≡_}
 use mathlib.Core.List.{List, [], _∷_, _++_}
 use lib.ListN.{length, take, drop}
-use Rattle.model.specs.Program.{numeral, printedFrom}
+use Rattle.model.specs.Program.{numeral}
+use Rattle.theory.specs.Printed.{printedFrom}
 use Rattle.print.specs.declared.Printing.{Printing}
 
 -- the buffer holds `out` from place `start` on, `end` is the place after it, and all other bytes are as before

@@ -4,7 +4,8 @@ ghost use mathlib.Core.Bool.{cond};
 ghost use Prim.Native.Nat.{_+_, _*_, _≤_};
 ghost use lib.ListN.{length};
 ghost use lib.Dec.{eqb};
-ghost use Rattle.model.specs.Program.{numeral, printed, endLine, refusedLine};
+ghost use Rattle.model.specs.Program.{numeral, endLine, refusedLine};
+ghost use Rattle.theory.specs.Printed.{printed};
 ghost use Rattle.print.specs.Put.{Puts, EntryPut, line};
 
 // Where the next byte goes, and how many vertices of the record at hand are still to come.
@@ -48,14 +49,14 @@ pub fn put_number(bytes: &mut [u8], at: usize, k: usize) -> usize
     last + 1
 }
 
-// What follows a vertex, with so many to come, itself among them: byte 10 after the last, else a space.
+// What follows a vertex, with so many to come, itself among them: byte 10 after the last, else the one space that parts two.
 fn parting(left: usize) -> u8
     ensures { λ r. ⌜ r ≡ cond (eqb left 1) 10 32 ⌝ }
 {
     if left == 1 { b'\n' } else { b' ' }
 }
 
-// Puts what is printed of one output entry. With no vertex to come it is the size of the next record, else a vertex.
+// Puts what is printed of one output entry: "one line a group, vertices plus 1". With no vertex to come it is the size of the next record.
 fn put_entry(bytes: &mut [u8], at: usize, left: usize, entry: u16) -> Printing
     requires { ⌜ at + 6 ≤ length (now bytes) ⌝ }
     ensures { λ r. ⌜ EntryPut (now (bytes .entry)) at left entry (now (bytes .exit)) r ⌝ }

@@ -2,7 +2,7 @@
 use native.Mathlib.Omega.{arith}
 use borrow.Author.Tests.{not-true, not-false}
 use borrow.Author.Needs.{needs}
-use Rattle.dimacs.proofs.Replies.{replies-as, end-33, end-39, end-accepted}
+use Rattle.dimacs.proofs.LineByLine.{replies-as, end-33, end-39, end-accepted}
 use Rattle.dimacs.proofs.finish.Statement.{statement}
 use Rattle.dimacs.proofs.finish.Tie as tie
 
@@ -13,10 +13,7 @@ same-length : tie.Need-same-length
 same-length c = search needs
 
 returns : tie.Need-returns
-returns c =
-    let e = c .before .before .before .before in
-    let g = e .before .before .before .args in
-    replies-as (c .before .before .refuse .ensures) (end-33 (g .line) (g .s) (g .table .now) (not-true _ (e .if1 .taken)))
+returns c = replies-as (c .before .before .refuse .ensures) (end-33 _ _ _ (not-true _ (c .before .before .before .before .if1 .taken)))
 
 refuse-requires-2 : tie.Need-refuse-requires-2
 refuse-requires-2 c κs = c .before .before .before .before .before .before .pre
@@ -27,8 +24,7 @@ same-length-2 c = search needs
 returns-2 : tie.Need-returns-2
 returns-2 c =
     let e = c .before .before .before .before in
-    let g = e .before .before .before .before .before .args in
-    replies-as (c .before .before .refuse2 .ensures) (end-39 (g .line) (g .s) (g .table .now) (not-false _ (e .before .before .if1 .left)) (λ q. omega (arith, e .if2 .taken)))
+    replies-as (c .before .before .refuse2 .ensures) (end-39 _ _ _ (not-false _ (e .before .before .if1 .left)) (λ q. omega (arith, e .if2 .taken)))
 
 cast-t9 : tie.Need-cast-t9
 cast-t9 c = omega (arith, c .before .before .before .before .before .before .pre .small)
@@ -39,8 +35,7 @@ cast-t10 c = omega (arith, c .before .before .before .before .before .before .be
 returns-3 : tie.Need-returns-3
 returns-3 c =
     let e = c .before .before in
-    let g = e .before .before .before .before .before .args in
-    end-accepted (g .line) (g .s) (g .table .now) (not-false _ (e .before .before .if1 .left)) (omega (arith, e .if2 .left))
+    end-accepted _ _ _ (not-false _ (e .before .before .if1 .left)) (omega (arith, e .if2 .left))
 
 pub finish-spec : {M : Type 1} → statement M
 finish-spec =

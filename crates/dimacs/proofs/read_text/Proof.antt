@@ -7,7 +7,7 @@ use lib.ListN.{length}
 use borrow.Author.Needs.{needs}
 use Rattle.lines.specs.Line.{Fit}
 use Rattle.lines.proofs.Steps.{stepped-at}
-use Rattle.dimacs.proofs.Replies.{SoFar, so-fit, so-none, so-ended, so-faulty, so-next}
+use Rattle.dimacs.proofs.LineByLine.{SoFar, so-fit, so-none, so-ended, so-faulty, so-next}
 use Rattle.dimacs.proofs.read_text.Statement.{statement}
 use Rattle.dimacs.proofs.read_text.Tie as tie
 

@@ -1,13 +1,14 @@
 -- `dimacs::refuse` meets its contract. Assumes nothing.
+use mathlib.Core.Path.{refl}
 use native.Mathlib.Omega.{arith}
 use borrow.Author.Needs.{needs}
+use Rattle.model.specs.Text.{refusedAt}
 use Rattle.lines.proofs.Cells.{area-fits}
-use Rattle.dimacs.proofs.Replies.{refusal-replies}
 use Rattle.dimacs.proofs.refuse.Statement.{statement}
 use Rattle.dimacs.proofs.refuse.Tie as tie
 
 mul-clear : tie.Need-mul-clear
-mul-clear c = omega (arith, area-fits (c .before .before .args .s .vertices) (c .before .before .pre .small))
+mul-clear c = omega (arith, area-fits _ (c .before .before .pre .small))
 
 clear-requires : tie.Need-clear-requires
 clear-requires c κs = omega (arith, c .before .before .pre .area)
@@ -16,9 +17,8 @@ same-length : tie.Need-same-length
 same-length c = search needs
 
 returns : tie.Need-returns
-returns c =
-    let g = c .before .before .before .before .before .args in
-    refusal-replies (g .number) (g .line) (g .s) (g .table .now) (c .before .before .clear .last .0) (c .before .before .clear .ensures)
+unfolding refusedAt
+returns c = record { refusal = refl; vertices = refl; edges = refl; line = refl; table = c .before .before .clear .ensures }
 
 pub refuse-spec : {M : Type 1} → statement M
 refuse-spec = tie.close (tie.spec mul-clear clear-requires same-length returns)

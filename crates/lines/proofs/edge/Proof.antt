@@ -1,52 +1,59 @@
--- `dimacs::line::edge` meets its contract: the tests 36, 37 and 38 in their order, and then both cells of the pair are set.
+-- `lines::edge` meets its contract: the tests 36, 37 and 38 in their order, and then both cells of the pair are set.
 -- Assumes nothing.
 use Prim.Native.Nat.{ℕ, _+_, _*_, _-_, _≤_, _<_}
-use mathlib.Core.Path.{_≡_, ap}
+use mathlib.Core.Path.{_≡_, ap, _∙_}
+use mathlib.Core.Logic.{inl, inr}
 use native.Mathlib.Omega.{arith}
 use lib.ListN.{length-set}
+use lib.Dec.{eqb}
+use borrow.Author.Tests.{eq-eqb, ne-eqb}
 use borrow.Author.Needs.{needs}
+use Rattle.model.specs.Text.{next, fault, eLine}
+use Rattle.model.specs.EdgeText.{Ends, OutOfRange}
+use Rattle.theory.proofs.basics.Tests.{fails}
+use Rattle.theory.proofs.text.EdgeTextFaults.{not-out-of-range}
+use Rattle.theory.proofs.text.EdgeTextStep.{repeatedBy, joinedBy, out-test}
 use Rattle.lines.specs.Line.{readingOf}
-use Rattle.lines.proofs.Cells.{Ranged, some, vertex-within, vertex-over, area-fits, cell, turned, edge-zero, edge-over, edge-other-zero, edge-other-over, edge-loop}
-use Rattle.lines.proofs.Steps.{faulty, repeated, joined}
+use Rattle.lines.proofs.Lines.{at-fault, past-fault, edge-tests}
+use Rattle.lines.proofs.Cells.{area-fits, cell, turned}
+use Rattle.lines.proofs.Steps.{faulty, table-byte, joined}
 use Rattle.lines.proofs.edge.Statement.{statement}
 use Rattle.lines.proofs.edge.Tie as tie
 
 -- past the first four tests U and V are from 1 to N
-ranged : (c : tie.Else4) → let g = c .before .before .before .before .args in Ranged (g .s .vertices) (g .u) (g .v)
-ranged c =
-    let g = c .before .before .before .before .args in
-    let n = g .s .vertices in
-    let a = c .before .before .before .if1 .left in
-    let b = c .before .if3 .left in
-    record {
-      above = some (g .u) a;
-      within = vertex-within n (g .u) a (c .before .before .if2 .left);
-      other-above = some (g .v) b;
-      other-within = vertex-within n (g .v) b (c .if4 .left);
-    }
+within : (c : tie.Else4) → let g = c .before .before .before .before .args in OutOfRange (g .s .vertices) (g .u) (g .v) → ⊥
+within c (inl h) = omega (arith, c .before .before .before .if1 .left)
+within c (inr (inl h)) = omega (arith, c .before .before .before .if1 .left, c .before .before .if2 .left)
+within c (inr (inr (inl h))) = omega (arith, c .before .if3 .left)
+within c (inr (inr (inr h))) = omega (arith, c .before .if3 .left, c .if4 .left)
 
--- past the fifth they differ
-differ : (c : tie.Else5) → c .before .before .before .before .before .args .u ≡ c .before .before .before .before .before .args .v → ⊥
-differ c e = c .if5 .left (ap (λ (k : ℕ). k - 1) e)
+past-36 : (c : tie.Else4) →
+    let g = c .before .before .before .before .args in
+    let r = readingOf (g .s) (g .table .now) in
+    fault 37 (eqb (g .u) (g .v)) (fault 38 (repeatedBy r (g .u) (g .v)) (next (joinedBy r (g .u) (g .v)))) ≡ eLine r (g .u) (g .v)
+past-36 c = past-fault _ (edge-tests _ _ _) (fails _ (λ e. within c (out-test _ _ _ .0 e)))
+
+-- past the fifth they differ, and are the ends of an edge
+ends : (c : tie.Else5) → let g = c .before .before .before .before .before .args in Ends (g .s .vertices) (g .u) (g .v)
+ends c = not-out-of-range _ _ _ (within (c .before)) (λ e. c .if5 .left (ap (λ (k : ℕ). k - 1) e))
+
+past-37 : (c : tie.Else5) →
+    let g = c .before .before .before .before .before .args in
+    let r = readingOf (g .s) (g .table .now) in
+    fault 38 (repeatedBy r (g .u) (g .v)) (next (joinedBy r (g .u) (g .v))) ≡ eLine r (g .u) (g .v)
+past-37 c = past-fault _ (past-36 (c .before)) (ne-eqb _ _ (ends c .differ))
 
 -- so both cells are within the table, which is small
 inside : (c : tie.Else5) →
     let g = c .before .before .before .before .before .args in
     let n = g .s .vertices in
     ((g .u - 1) * n + (g .v - 1) < n * n) × ((g .v - 1) * n + (g .u - 1) < n * n) × (n * n ≤ 1024 * 1024)
-inside c =
-    let g = c .before .before .before .before .before .args in
-    let n = g .s .vertices in (
-      cell n (g .u) (g .v) (ranged (c .before)),
-      cell n (g .v) (g .u) (turned (ranged (c .before))),
-      area-fits n (c .before .before .before .before .before .pre .0 .small),
-    )
+inside c = (cell (ends c), cell (turned (ends c)), area-fits _ (c .before .before .before .before .before .pre .0 .small))
 
 returns : tie.Need-returns
 returns c =
     let g = c .before .args in
-    let r = readingOf (g .s) (g .table .now) in
-    faulty (edge-zero r (g .u) (g .v) (c .if1 .taken))
+    faulty (at-fault _ (edge-tests _ _ _) (out-test (g .s .vertices) (g .u) (g .v) .1 (inl (omega (arith, c .if1 .taken)))))
 
 sub-a : tie.Need-sub-a
 sub-a c = search needs
@@ -54,16 +61,12 @@ sub-a c = search needs
 returns-2 : tie.Need-returns-2
 returns-2 c =
     let g = c .before .before .args in
-    let r = readingOf (g .s) (g .table .now) in
-    let a = c .before .if1 .left in
-    faulty (edge-over r (g .u) (g .v) (some (g .u) a) (vertex-over (g .s .vertices) (g .u) a (c .if2 .taken)))
+    faulty (at-fault _ (edge-tests _ _ _) (out-test (g .s .vertices) (g .u) (g .v) .1 (inr (inl (omega (arith, c .before .if1 .left, c .if2 .taken))))))
 
 returns-3 : tie.Need-returns-3
 returns-3 c =
     let g = c .before .before .before .args in
-    let r = readingOf (g .s) (g .table .now) in
-    let a = c .before .before .if1 .left in
-    faulty (edge-other-zero r (g .u) (g .v) (some (g .u) a) (vertex-within (g .s .vertices) (g .u) a (c .before .if2 .left)) (c .if3 .taken))
+    faulty (at-fault _ (edge-tests _ _ _) (out-test (g .s .vertices) (g .u) (g .v) .1 (inr (inr (inl (omega (arith, c .if3 .taken)))))))
 
 sub-b : tie.Need-sub-b
 sub-b c = search needs
@@ -71,18 +74,13 @@ sub-b c = search needs
 returns-4 : tie.Need-returns-4
 returns-4 c =
     let g = c .before .before .before .before .args in
-    let r = readingOf (g .s) (g .table .now) in
-    let a = c .before .before .before .if1 .left in
-    let b = c .before .if3 .left in
-    faulty (edge-other-over r (g .u) (g .v) (some (g .u) a) (vertex-within (g .s .vertices) (g .u) a (c .before .before .if2 .left)) (some (g .v) b)
-    (vertex-over (g .s .vertices) (g .v) b (c .if4 .taken)))
+    faulty (at-fault _ (edge-tests _ _ _) (out-test (g .s .vertices) (g .u) (g .v) .1 (inr (inr (inr (omega (arith, c .before .if3 .left, c .if4 .taken)))))))
 
 returns-5 : tie.Need-returns-5
 returns-5 c =
-    let g = c .before .before .before .before .before .args in
-    let r = readingOf (g .s) (g .table .now) in
-    let h = ranged (c .before) in
-    faulty (edge-loop r (g .u) (g .v) h (omega (arith, h .above, h .other-above)))
+    let b = c .before in
+    let g = b .before .before .before .before .args in
+    faulty (at-fault _ (past-36 b) (eq-eqb (g .u) (g .v) (omega (arith, c .if5 .taken, b .before .before .before .if1 .left, b .before .if3 .left))))
 
 mul-there : tie.Need-mul-there
 mul-there c = omega (arith, inside c)
@@ -96,9 +94,7 @@ slice-read-if6 c = omega (arith, inside (c .before), (c .before .before .before 
 returns-6 : tie.Need-returns-6
 returns-6 c =
     let e = c .before .before in
-    let b = e .before .before .before .before .before in
-    let g = b .args in
-    faulty (repeated (g .s) (g .table .now) (g .u) (g .v) (b .pre .0) (ranged (e .before)) (differ e) (c .if6 .taken))
+    faulty (at-fault _ (past-37 e) (eq-eqb _ _ (table-byte _ (ends e) ∙ c .if6 .taken)))
 
 mul-back : tie.Need-mul-back
 mul-back c = omega (arith, inside (c .before .before))
@@ -121,9 +117,7 @@ same-length c = simp length-set
 returns-7 : tie.Need-returns-7
 returns-7 c =
     let e = c .before .before .before in
-    let b = e .before .before .before .before .before in
-    let g = b .args in
-    joined (g .s) (g .table .now) (g .u) (g .v) (b .pre .0) (ranged (e .before)) (differ e) (c .before .if6 .left)
+    joined (ends e) (e .before .before .before .before .before .pre .0) (c .before .if6 .left) (past-37 e)
 
 pub edge-spec : {M : Type 1} → statement M
 edge-spec =

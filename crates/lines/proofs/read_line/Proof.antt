@@ -1,11 +1,12 @@
--- `dimacs::line::read_line` meets its contract, by the first letter. Assumes nothing.
+-- `lines::read_line` meets its contract, by the first letter. Assumes nothing.
 use Prim.Native.Nat.{ℕ}
-use mathlib.Core.Path.{_≡_}
+use mathlib.Core.Path.{_≡_, sym, _∙_}
 use native.Mathlib.Omega.{arith}
 use lib.ListN.{getD}
+use borrow.Author.Tests.{not-true, not-false}
 use borrow.Author.Needs.{needs}
-use Rattle.lines.specs.Line.{readingOf, FirstByte}
-use Rattle.lines.proofs.Lines.{line-empty, line-other, comment-passes, comment-31}
+use Rattle.lines.specs.Line.{FirstByte}
+use Rattle.lines.proofs.Lines.{at-fault, past-fault, line-empty, line-comment, line-other}
 use Rattle.lines.proofs.Steps.{faulty, unchanged}
 use Rattle.lines.proofs.read_line.Statement.{statement}
 use Rattle.lines.proofs.read_line.Tie as tie
@@ -15,9 +16,7 @@ letter : (c : tie.After-shared-slice-known2) {b : ℕ} → getD (c .before .befo
 letter c e = record { some = omega arith; first = e }
 
 returns : tie.Need-returns
-returns c =
-    let g = c .before .before .before .args in
-    faulty (line-empty _ (readingOf (g .s) (g .table .now)) (g .line .now) (c .if1 .taken))
+returns c = faulty (line-empty _ _ _ (c .if1 .taken))
 
 shared-slice-read-first : tie.Need-shared-slice-read-first
 shared-slice-read-first c = search needs
@@ -38,17 +37,13 @@ edge-line-requires c κs =
 returns-2 : tie.Need-returns-2
 returns-2 c =
     let e = c .before .before in
-    let b = e .before .before .before .before .before in
-    let g = b .args in
-    unchanged (b .pre .0)
-    (comment-passes _ (readingOf (g .s) (g .table .now)) (g .line .now) (letter (e .before) (e .match .keys1)) _ (c .before .comment .ensures) (c .if2 .taken))
+    unchanged (e .before .before .before .before .before .pre .0)
+    (past-fault _ (line-comment _ _ _ (letter (e .before) (e .match .keys1))) (not-true _ (sym (c .before .comment .ensures) ∙ c .if2 .taken)))
 
 returns-3 : tie.Need-returns-3
 returns-3 c =
     let e = c .before .before in
-    let b = e .before .before .before .before .before in
-    let g = b .args in
-    faulty (comment-31 _ (readingOf (g .s) (g .table .now)) (g .line .now) (letter (e .before) (e .match .keys1)) _ (c .before .comment .ensures) (c .if2 .left))
+    faulty (at-fault _ (line-comment _ _ _ (letter (e .before) (e .match .keys1))) (not-false _ (sym (c .before .comment .ensures) ∙ c .if2 .left)))
 
 same-length : tie.Need-same-length
 same-length c = search needs
@@ -64,9 +59,8 @@ returns-5 c = search needs
 
 returns-6 : tie.Need-returns-6
 returns-6 c =
-    let g = c .before .before .before .before .before .args in
     let m = c .match .rest in
-    faulty (line-other _ (readingOf (g .s) (g .table .now)) (g .line .now) (m .0 .0 .1) (m .0 .1) (m .1))
+    faulty (line-other _ _ _ (m .0 .0 .1) (m .0 .1) (m .1))
 
 pub read-line-spec : {M : Type 1} → statement M
 read-line-spec =

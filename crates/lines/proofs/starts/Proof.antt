@@ -1,4 +1,4 @@
--- `dimacs::line::starts` meets its contract. Assumes nothing.
+-- `lines::starts` meets its contract. Assumes nothing.
 use Prim.Native.Nat.{ℕ}
 use mathlib.Core.Path.{_≡_, ap, sym}
 use mathlib.Core.Bool.{true, false}

@@ -1,16 +1,16 @@
--- `cli::list::one_page` meets its contract. Assumes nothing.
+-- `listing::one_page` meets its contract. Assumes nothing.
 use Prim.Native.Nat.{ℕ}
 use mathlib.Core.Path.{sym, ap, ap₂}
 use mathlib.Core.List.{List}
 use native.Mathlib.Omega.{arith}
-use lib.ListN.{length, take, length-take}
+use lib.ListN.{take, length-take}
 use lib.Seq.{length-take-le}
 use lib.Dec.{eqb}
 use Rattle.model.specs.Walk.{stoppedFinished}
-use Rattle.model.specs.Program.{printed}
-use Rattle.isolation.specs.Numbers.{settingsOf}
-use Rattle.print.proofs.Places.{puts-as}
-use Rattle.listing.proofs.Paging.{used-fits}
+use Rattle.theory.specs.Printed.{printed}
+use Rattle.theory.proofs.calls.Bounds.{page-bounds}
+use Rattle.print.proofs.Puts.{puts-as}
+use Rattle.listing.proofs.PageByPage.{used-fits}
 use borrow.Author.Needs.{needs}
 use Rattle.listing.proofs.one_page.Statement.{statement}
 use Rattle.listing.proofs.one_page.Tie as tie
@@ -19,18 +19,16 @@ page-requires : tie.Need-page-requires
 page-requires c κs = search needs
 
 slice-reshare-prefix-print-entries : tie.Need-slice-reshare-prefix-print-entries
-slice-reshare-prefix-print-entries c =
-    let a = c .before .before .before .before .before .before .before .before .before .before .before .before .before .before .before .args in
-    used-fits (a .n) (a .table .now) (settingsOf (a .s)) 4294967295 (a .position .now) (a .output .now) (length (a .work .now)) (c .before .before .before .before .before .before .page .ensures .replies)
+slice-reshare-prefix-print-entries c = used-fits (page-bounds _ _ _ _ _ _ _) (c .before .before .before .before .before .before .page .ensures .replies)
 
 slice-aggregate-print-entries : tie.Need-slice-aggregate-print-entries
 slice-aggregate-print-entries c =
-    let a = c .before .before .before .before .before .before .before .before .before .before .before .before .before .before .before .before .args in
-    sym (length-take-le _ _ (used-fits (a .n) (a .table .now) (settingsOf (a .s)) 4294967295 (a .position .now) (a .output .now) (length (a .work .now)) (c .before .before .before .before .before .before .before .page .ensures .replies)))
+    sym (length-take-le _ _ (used-fits (page-bounds _ _ _ _ _ _ _) (c .before .before .before .before .before .before .before .page .ensures .replies)))
 
 print-entries-requires : tie.Need-print-entries-requires
 print-entries-requires c κs =
-    omega (arith, length-take (c .before .before .before .before .before .before .before .before .page .result .used) (c .before .before .before .before .before .before .before .before .page .last .1 .1 .0), c .before .before .before .before .before .before .before .before .page .kept .1 .1 .0)
+    let r = c .before .before .before .before .before .before .before .before .page in
+    omega (arith, length-take (r .result .used) (r .last .1 .1 .0), r .kept .1 .1 .0)
 
 same-length : tie.Need-same-length
 same-length c = search needs
@@ -46,9 +44,7 @@ same-length-4 c = search needs
 
 returns : tie.Need-returns
 returns c =
-    let a = c .before .before .before .before .before .before .before .before .before .before .before .before .before .before .before .before .before .before .before .before .before .args in
-    let r = c .before .before .before .before .before .before .before .before .before .before .before .before .page in
-    let e = r .ensures .replies in
+    let e = c .before .before .before .before .before .before .before .before .before .before .before .before .page .ensures .replies in
     record {
       position = e .position;
       finished = ap (λ (k : ℕ). eqb k stoppedFinished) (e .stop);

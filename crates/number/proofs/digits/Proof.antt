@@ -1,4 +1,4 @@
--- `dimacs::field::digits` meets its contract: what is left of the field decides the rest. Assumes nothing.
+-- `number::digits` meets its contract: what is left of the field decides the rest. Assumes nothing.
 use Prim.Native.Nat.{ℕ, _*_, _+_, _^_, _≤_, _<_, _-_}
 use mathlib.Core.Path.{_≡_, refl, sym, ap, _∙_}
 use native.Mathlib.Omega.{arith}
@@ -41,21 +41,13 @@ add-value c =
 
 returns : tie.Need-returns Inv-loop μ-loop
 returns c =
-    let l = c .before .before .before in
-    let f = l .before .before .args .field .now in
-    record {
-      value = spoilt f (l .loop .inv .2 ∙ digit-below f (l .loop .i) (c .before .before .loop-test .taken) (c .if1 .taken));
-      small = tt;
-    }
+    let l = c .before .before .before .loop in
+    record { value = spoilt _ (l .inv .2 ∙ digit-below _ (l .i) (c .before .before .loop-test .taken) (c .if1 .taken)); small = tt }
 
 returns-2 : tie.Need-returns-2 Inv-loop μ-loop
 returns-2 c =
-    let l = c .before .before .before .before in
-    let f = l .before .before .args .field .now in
-    record {
-      value = spoilt f (l .loop .inv .2 ∙ digit-above f (l .loop .i) (c .before .before .before .loop-test .taken) (c .if2 .left));
-      small = tt;
-    }
+    let l = c .before .before .before .before .loop in
+    record { value = spoilt _ (l .inv .2 ∙ digit-above _ (l .i) (c .before .before .before .loop-test .taken) (c .if2 .left)); small = tt }
 
 add-i : tie.Need-add-i Inv-loop μ-loop
 add-i c = search needs
@@ -82,12 +74,8 @@ loop-again c =
 
 returns-3 : tie.Need-returns-3 Inv-loop μ-loop
 returns-3 c =
-    let l = c .before in
-    let f = l .before .before .args .field .now in
-    record {
-      value = counted f (l .loop .i) (l .loop .value) (c .loop-test .left) (l .loop .inv .2) (l .loop .inv .3);
-      small = power-six (l .loop .i) (l .loop .value) (omega arith) (l .loop .inv .1);
-    }
+    let l = c .before .loop in
+    record { value = counted _ (l .i) (l .value) (c .loop-test .left) (l .inv .2) (l .inv .3); small = power-six (l .i) (l .value) (omega arith) (l .inv .1) }
 
 pub digits-spec : {M : Type 1} → statement M
 digits-spec =

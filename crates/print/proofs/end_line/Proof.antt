@@ -1,4 +1,4 @@
--- `cli::print::end_line` meets its contract. Assumes nothing.
+-- `print::end_line` meets its contract. Assumes nothing.
 use native.Mathlib.Omega.{arith}
 use Rattle.model.specs.Program.{endLine}
 use Rattle.print.proofs.Numeral.{ten-digits}

@@ -1,4 +1,4 @@
--- `cli::print::parting` meets its contract. Assumes nothing.
+-- `print::parting` meets its contract. Assumes nothing.
 use Prim.Native.Nat.{ℕ}
 use mathlib.Core.Path.{sym, ap}
 use mathlib.Core.Bool.{Bool, cond}

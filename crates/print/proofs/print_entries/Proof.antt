@@ -1,8 +1,8 @@
--- `cli::print::print_entries` meets its contract. Assumes nothing.
+-- `print::print_entries` meets its contract. Assumes nothing.
 use Prim.Native.Nat.{_-_}
 use native.Mathlib.Omega.{arith}
 use lib.ListN.{length}
-use Rattle.print.proofs.Places.{puts-length}
+use Rattle.print.proofs.Puts.{puts-length}
 use Rattle.print.proofs.Printed.{SoFar, so-none, so-more, so-all}
 use borrow.Author.Needs.{needs}
 use Rattle.print.proofs.print_entries.Statement.{statement}
@@ -15,7 +15,7 @@ abbrev μ-loop : tie.MeasureT-loop
 μ-loop entries bytes₀ s₀ i₀ bytes s i = length entries - i
 
 loop-holds : tie.Need-loop-holds Inv-loop μ-loop
-loop-holds c = so-none (c .before .before .args .entries .now) (c .before .before .args .bytes .now)
+loop-holds c = so-none
 
 mul-put-entry : tie.Need-mul-put-entry Inv-loop μ-loop
 mul-put-entry c = search needs
@@ -38,19 +38,15 @@ loop-less c = search needs
 loop-again : tie.Need-loop-again Inv-loop μ-loop
 loop-again c =
     let l = c .before .before .before .before .before .before in
-    let a = l .before .before .before .args in
-    so-more (a .entries .now) (a .bytes .now) (l .loop .bytes) (l .loop .s) (l .loop .i) (l .loop .inv) (omega arith)
-    (c .before .before .put-entry .last .0) (c .before .before .put-entry .result) (c .before .before .put-entry .ensures)
+    so-more (l .loop .inv) (omega arith) (c .before .before .put-entry .ensures)
 
 same-length : tie.Need-same-length Inv-loop μ-loop
 same-length c = puts-length (c .before .loop .inv .puts)
 
 returns : tie.Need-returns Inv-loop μ-loop
 returns c =
-    let a = c .before .before .before .before .args in
-    let l = c .before .loop in
-    let h = l .inv .passed in
-    so-all (a .entries .now) (a .bytes .now) (l .bytes) (l .s) (l .i) (l .inv) (omega arith)
+    let h = c .before .loop .inv .passed in
+    so-all (c .before .loop .inv) (omega arith)
 
 pub print-entries-spec : {M : Type 1} → statement M
 print-entries-spec =

@@ -1,11 +1,11 @@
--- `cli::print::put` meets its contract. Assumes nothing.
+-- `print::put` meets its contract. Assumes nothing.
 use Prim.Native.Nat.{ℕ, _+_, _-_, _≤_}
 use mathlib.Core.Path.{subst}
 use mathlib.Core.List.{[]}
 use native.Mathlib.Omega.{arith}
 use lib.ListN.{length, take}
 use Rattle.print.specs.Put.{Puts}
-use Rattle.print.proofs.Places.{puts-none, puts-length, puts-next, puts-word}
+use Rattle.print.proofs.Puts.{puts-none, puts-length, puts-next, puts-word}
 use borrow.Author.Needs.{needs}
 use Rattle.print.proofs.put.Statement.{statement}
 use Rattle.print.proofs.put.Tie as tie
@@ -17,7 +17,9 @@ abbrev μ-loop : tie.MeasureT-loop
 μ-loop bytes₀ at word i₀ bytes i = length word - i
 
 loop-holds : tie.Need-loop-holds Inv-loop μ-loop
-loop-holds c = (omega arith, subst (λ (e : ℕ). Puts (c .args .bytes .now) (c .args .at) [] (c .args .bytes .now) e) (omega arith) (puts-none (c .args .bytes .now) (c .args .at) (omega arith)))
+loop-holds c =
+    let b = c .args .bytes .now in
+    (omega arith, subst (λ (e : ℕ). Puts b (c .args .at) [] b e) (omega arith) (puts-none (omega arith)))
 
 shared-slice-read-bytes : tie.Need-shared-slice-read-bytes Inv-loop μ-loop
 shared-slice-read-bytes c = search needs

@@ -1,9 +1,6 @@
--- `cli::print::put_entry` meets its contract. Assumes nothing.
-use Prim.Native.Nat.{_+_}
+-- `print::put_entry` meets its contract. Assumes nothing.
 use native.Mathlib.Omega.{arith}
-use Rattle.print.proofs.Numeral.{five-digits}
-use Rattle.print.proofs.Places.{puts-length}
-use Rattle.print.proofs.Printed.{put-empty, put-size, put-vertex}
+use Rattle.print.proofs.Printed.{number-fits, byte-fits, put-empty, put-size, put-vertex}
 use borrow.Author.Needs.{needs}
 use Rattle.print.proofs.put_entry.Statement.{statement}
 use Rattle.print.proofs.put_entry.Tie as tie
@@ -18,30 +15,22 @@ same-length : tie.Need-same-length
 same-length c = search needs
 
 returns : tie.Need-returns
-returns c =
-    let a = c .before .before .before .args in
-    put-empty (a .bytes .now) (a .at) (a .left) (a .entry) (c .before .if1 .taken) (c .if2 .taken) (omega arith)
+returns c = put-empty (c .before .if1 .taken) (c .if2 .taken) (omega arith)
 
 returns-2 : tie.Need-returns-2
-returns-2 c =
-    let a = c .before .before .before .args in
-    put-size (a .bytes .now) (a .at) (a .left) (a .entry) (c .before .if1 .taken) (c .if2 .left) (omega arith)
+returns-2 c = put-size (c .before .if1 .taken) (c .if2 .left) (omega arith)
 
 add-put-number : tie.Need-add-put-number
 add-put-number c = search needs
 
 put-number-requires : tie.Need-put-number-requires
-put-number-requires c κs = omega (arith, five-digits (c .before .before .before .args .entry + 1) (omega arith))
+put-number-requires c κs = number-fits _ _ _ (omega arith) (omega arith)
 
 parting-requires : tie.Need-parting-requires
 parting-requires c κs = search needs
 
 slice-write-bytes-2 : tie.Need-slice-write-bytes-2
-slice-write-bytes-2 c =
-    let a = c .before .before .before .before .before .before .before .args in
-    let p = c .before .before .before .put-number .ensures in
-    let h = p .place in
-    omega (arith, puts-length p, five-digits (a .entry + 1) (omega arith))
+slice-write-bytes-2 c = byte-fits _ (omega arith) (omega arith) (c .before .before .before .put-number .ensures)
 
 add-t13 : tie.Need-add-t13
 add-t13 c = search needs
@@ -54,12 +43,8 @@ same-length-2 c = search needs
 
 returns-3 : tie.Need-returns-3
 returns-3 c =
-    let a = c .before .before .before .before .before .before .before .args in
-    let p = c .before .before .before .put-number .ensures in
-    let h = p .place in
-    put-vertex (a .bytes .now) (a .at) (a .left) (a .entry) (c .before .before .before .before .before .if1 .left) (omega arith)
-    (c .before .before .before .put-number .last .0) (c .before .before .before .put-number .result) p
-    (omega (arith, puts-length p, five-digits (a .entry + 1) (omega arith))) (c .parting .result) (c .parting .ensures)
+    let n = c .before .before .before in
+    put-vertex (n .before .before .if1 .left) (omega arith) (n .put-number .ensures) (byte-fits _ (omega arith) (omega arith) (n .put-number .ensures)) (c .parting .ensures)
 
 pub put-entry-spec : {M : Type 1} → statement M
 put-entry-spec =

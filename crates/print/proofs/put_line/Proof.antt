@@ -1,9 +1,8 @@
--- `cli::print::put_line` meets its contract. Assumes nothing.
-use mathlib.Core.Path.{_≡_, _∙_}
+-- `print::put_line` meets its contract. Assumes nothing.
 use native.Mathlib.Omega.{arith}
-use lib.ListN.{length, length-set}
-use Rattle.print.proofs.Places.{puts-length}
-use Rattle.print.proofs.Printed.{puts-line}
+use lib.ListN.{length-set}
+use Rattle.print.proofs.Puts.{puts-length}
+use Rattle.print.proofs.Printed.{line-length, line-end, puts-line}
 use borrow.Author.Needs.{needs}
 use Rattle.print.proofs.put_line.Statement.{statement}
 use Rattle.print.proofs.put_line.Tie as tie
@@ -30,36 +29,23 @@ put-number-requires-2 c κs =
 
 slice-write-bytes-2 : tie.Need-slice-write-bytes-2
 slice-write-bytes-2 c =
-    let r = c .before .before .put-number2 .ensures in
-    let q = c .before .before .before .before .before .before .put-number .ensures in
-    let p = c .before .before .before .before .before .before .before .before .before .before .put .ensures in
-    let h = p .place in
-    let g = q .place in
-    let f = r .place in
-    let l : length (c .before .before .put-number2 .last .0) ≡ length (c .before .before .before .before .before .before .put-number .last .0) = puts-length r ∙ simp length-set in
-    omega (arith, puts-length p, puts-length q)
+    let n = c .before .before .before .before .before .before in
+    let w = n .before .before .before .before in
+    line-end (w .put .ensures) (n .put-number .ensures) (c .before .before .put-number2 .ensures) (omega arith)
 
 add-result : tie.Need-add-result
 add-result c = search needs
 
 same-length : tie.Need-same-length
 same-length c =
-    let r = c .before .before .put-number2 .ensures in
-    let q = c .before .before .before .before .before .before .put-number .ensures in
-    let p = c .before .before .before .before .before .before .before .before .before .before .put .ensures in
-    simp length-set (puts-length r ∙ simp length-set (puts-length q ∙ puts-length p))
+    let n = c .before .before .before .before .before .before in
+    simp length-set (line-length (n .before .before .before .before .put .ensures) (n .put-number .ensures) (c .before .before .put-number2 .ensures))
 
 returns : tie.Need-returns
 returns c =
-    let r = c .before .before .put-number2 .ensures in
-    let q = c .before .before .before .before .before .before .put-number .ensures in
-    let p = c .before .before .before .before .before .before .before .before .before .before .put .ensures in
-    let h = p .place in
-    let g = q .place in
-    let f = r .place in
-    let l : length (c .before .before .put-number2 .last .0) ≡ length (c .before .before .before .before .before .before .put-number .last .0) = puts-length r ∙ simp length-set in
-    let a = c .before .before .before .before .before .before .before .before .before .before .before .before .before .before .args in
-    puts-line (a .word .now) (a .a) (a .b) p q (omega (arith, puts-length p, puts-length q)) r (omega (arith, puts-length p, puts-length q))
+    let n = c .before .before .before .before .before .before in
+    let w = n .before .before .before .before in
+    puts-line (w .put .ensures) (n .put-number .ensures) (c .before .before .put-number2 .ensures) (omega arith)
 
 pub put-line-spec : {M : Type 1} → statement M
 put-line-spec =

@@ -1,4 +1,4 @@
--- `cli::print::refused_line` meets its contract. Assumes nothing.
+-- `print::refused_line` meets its contract. Assumes nothing.
 use native.Mathlib.Omega.{arith}
 use Rattle.model.specs.Program.{refusedLine}
 use Rattle.print.proofs.Numeral.{ten-digits, twenty-digits}

@@ -19,20 +19,14 @@ use Rattle.model.specs.Walk.{Position, Rules, Page, halt, onward, fresh, finish
 use Rattle.model.specs.Listing.{is, rules, takenList, recordOf}
 use Rattle.model.specs.Calls.{PageReply, looped, refuseTable, refusePage, replyOf, pageCall}
 use Rattle.model.specs.Demand.{Call, replyTo, replies, leftAt, joinedOutput, allSteps, allGroups, Agree, Prefix, SaidFinished, SomeFinished, Demand3, Each, MakesStep, Idle, RefusedIdle, Demanded}
+use Rattle.theory.specs.Replies.{gone, Went, Replied, Chain}
 use Rattle.theory.proofs.basics.Tests.{lt-or-ge, fails, test-any, test-self}
 use Rattle.theory.proofs.calls.PageAccepted.{refuse-pass, accepted-iff}
 use Rattle.theory.proofs.calls.Bounds.{page-bounds}
 use Rattle.theory.proofs.walk.Listing.{lists}
 use Rattle.theory.proofs.walk.Lawful.{lawful}
 use Rattle.theory.proofs.walk.Remaining.{remaining, fresh-fit}
-use Rattle.theory.proofs.walk.Walk.{Lawful, gone, gone-first, gone-left, remaining-kept, groups-member, records-append, finished-done, after-valid, after-add}
-
--- k steps from p, each from an unfinished position, reach q and pass g groups, whose entries are es
-pub record Went (R : Rules) (p : Position) (k : ℕ) (q : Position) (es : List ℕ) (g : ℕ) : Type 0 where
-  pub to : after R k p ≡ q
-  pub wrote : es ≡ records R (gone R k p)
-  pub number : g ≡ length (gone R k p)
-  pub walking : (j : ℕ) → j < k → finished (after R j p) ≡ false
+use Rattle.theory.proofs.walk.Walk.{Lawful, gone-first, gone-left, remaining-kept, groups-member, records-append, finished-done, after-valid, after-add}
 
 module _ (R : Rules) where
   went-stay : (p : Position) → Went R p 0 p [] 0
@@ -172,16 +166,6 @@ module _ (R : Rules) (n : ℕ) (law : Lawful R n) (k : ℕ) (q : Position) (es :
       )
 
 -- ---- lists of replies, whatever calls they answer
-
--- a reply to a call that was handed p: a stretch of the walk, and Finished said exactly where it ends finished
-abbrev pub Replied : Rules → Position → PageReply → Type 0
-Replied R p r =
-    Went R p (r .steps) (r .position) (take (r .used) (r .output)) (r .groups) × (r .refused ≡ 0 → (r .stop ≡ stoppedFinished) ↔ (finished (r .position) ≡ true))
-
--- replies of which each was handed the position that the one before it left
-abbrev pub Chain : Rules → Position → List PageReply → Type 0
-Chain R p [] = Unit {0}
-Chain R p (r ∷ rs) = Replied R p r × Chain R (r .position) rs
 
 -- a reply by the refusal number: refused, or accepted with what a page did
 pub replied : (R : Rules) (k : ℕ) (r : Page) (p : Position) (out : List ℕ) → (k ≡ 0 → Does R p r) → Replied R p (replyOf k r p out)

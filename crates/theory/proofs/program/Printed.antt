@@ -11,9 +11,9 @@ use Rattle.model.specs.Walk.{Position, records, fullSets, fullList}
 use Rattle.model.specs.Listing.{takenList, recordOf, rules}
 use Rattle.model.specs.Calls.{PageReply}
 use Rattle.model.specs.Demand.{joinedOutput}
-use Rattle.model.specs.Program.{numeral, groupLine, groupLines, printedFrom, printed, printedPages, held}
-use Rattle.theory.proofs.walk.Walk.{gone}
-use Rattle.theory.proofs.calls.Pages.{Chain}
+use Rattle.model.specs.Program.{numeral, groupLine, groupLines, held}
+use Rattle.theory.specs.Replies.{gone, Chain}
+use Rattle.theory.specs.Printed.{printedFrom, printed, printedPages}
 
 vertices-printed : (v : ℕ) (vs rest : List ℕ) → printedFrom (suc (length vs)) (v ∷ (vs ++ rest)) ≡ groupLine (v ∷ vs) ++ printedFrom 0 rest
 unfolding printedFrom groupLine

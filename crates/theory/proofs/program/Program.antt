@@ -18,12 +18,14 @@ use Rattle.model.specs.Listing.{recordOf, rules}
 use Rattle.model.specs.Calls.{refuseTable, refuseSettings, refusePage, PageReply}
 use Rattle.model.specs.Demand.{allSteps, allGroups, SomeFinished, Demand3}
 use Rattle.model.specs.Text.{numberOf, TextReply}
-use Rattle.model.specs.Program.{Words, wrong, chosen, Verdict, refusal, listing, bounded, three, settingsOfWords, printed, printedPages, held, endLine, refusedLine, reading, byReading, byWords, programVerdict, PrintsAt, Prints}
+use Rattle.model.specs.Program.{Words, wrong, chosen, Verdict, refusal, listing, bounded, three, settingsOfWords, groupLines, held, endLine, refusedLine, reading, byReading, byWords, programVerdict, PrintsAt, Prints}
+use Rattle.theory.specs.Replies.{Chain}
+use Rattle.theory.specs.Printed.{printed, printedPages}
 use Rattle.theory.proofs.walk.Ends.{walk-ends, length-once}
 use Rattle.theory.proofs.walk.Walk.{records-append}
-use Rattle.theory.proofs.calls.Pages.{Chain, chain-demand, table-lawful}
+use Rattle.theory.proofs.calls.Pages.{chain-demand, table-lawful}
 use Rattle.theory.proofs.calls.Next.{walk-page-accepted}
-use Rattle.theory.proofs.program.Printed.{pages-printed}
+use Rattle.theory.proofs.program.Printed.{list-printed, pages-printed}
 use Rattle.theory.proofs.text.EdgeTextGraph.{read-table-accepted}
 
 -- ---- refusals
@@ -80,40 +82,61 @@ pub verdict-listable : (words : List (List ℕ)) (text : List ℕ) → Listable 
 unfolding programVerdict
 verdict-listable words text = words-listable (settingsOfWords words) text (words-passed words)
 
+-- a refusal prints only its line
+pub refusal-prints : (words : List (List ℕ)) (text : List ℕ) (k line : ℕ) → programVerdict words text ≡ refusal k line → Prints words text (refusedLine k line)
+unfolding PrintsAt
+refusal-prints words text k line e = subst⁻¹ (λ (x : Verdict). PrintsAt x (refusedLine k line)) e refl
+
 -- words come first: their refusal is all that is printed, whatever the text
 pub words-refused : (words : List (List ℕ)) (text : List ℕ) (k : ℕ) → settingsOfWords words ≡ wrong k → Prints words text (refusedLine k 0)
-unfolding programVerdict byWords PrintsAt
-words-refused words text k e = subst⁻¹ (λ (w : Words). PrintsAt (byWords w text) (refusedLine k 0)) e refl
+unfolding programVerdict byWords
+words-refused words text k e = refusal-prints words text k 0 (ap (λ (w : Words). byWords w text) e)
+
+-- a wrong count of words is refusal 32
+pub not-three : (words : List (List ℕ)) → length words ≢ 3 → settingsOfWords words ≡ wrong 32
+unfolding settingsOfWords
+not-three [] d = refl
+not-three (a ∷ []) d = refl
+not-three (a ∷ b ∷ []) d = refl
+not-three (a ∷ b ∷ c ∷ []) d = absurd (d refl)
+not-three (a ∷ b ∷ c ∷ e ∷ es) d = refl
+
+-- so it prints `refused 32 0`
+pub wrong-count : (words : List (List ℕ)) (text : List ℕ) → length words ≢ 3 → Prints words text (refusedLine 32 0)
+wrong-count words text d = words-refused words text 32 (not-three words d)
 
 -- then 41, a text of more than 65,536 bytes
+pub by-length : (s : Settings) (text : List ℕ) → ltb 65536 (length text) ≡ true → byWords (chosen s) text ≡ refusal 41 0
+unfolding byWords
+by-length s text e = rw (e, byWords)
+
 pub long-refused : (words : List (List ℕ)) (text : List ℕ) (s : Settings) → settingsOfWords words ≡ chosen s → 65536 < length text
     → Prints words text (refusedLine 41 0)
-unfolding programVerdict byWords PrintsAt
+unfolding programVerdict
 long-refused words text s e h =
-    subst⁻¹ (λ (w : Words). PrintsAt (byWords w text) (refusedLine 41 0)) e
-    (rw (lt-ltb 65536 (length text) h, byWords) refl)
+    refusal-prints words text 41 0 (ap (λ (w : Words). byWords w text) e ∙ by-length s text (lt-ltb 65536 (length text) h))
 
-reading-refused : (k : ℕ) (s : Settings) (r : TextReply) → k ≢ 0 → PrintsAt (byReading k s r) (refusedLine k (r .line))
-unfolding byReading PrintsAt
-reading-refused zero s r d = absurd (d refl)
-reading-refused (suc k) s r d = refl
+-- then the text, by the reader's refusal number
+pub by-text : (s : Settings) (text : List ℕ) → ltb 65536 (length text) ≡ false → byWords (chosen s) text ≡ byReading (reading text .refused) s (reading text)
+unfolding byWords
+by-text s text e = rw (e, byWords)
 
--- then the text
+pub by-refusal : (k : ℕ) (s : Settings) (r : TextReply) → k ≢ 0 → byReading k s r ≡ refusal k (r .line)
+unfolding byReading
+by-refusal zero s r d = absurd (d refl)
+by-refusal (suc k) s r d = refl
+
+pub by-graph : (k : ℕ) (s : Settings) (r : TextReply) → k ≡ 0 → byReading k s r ≡ listing s (r .vertices) (take (r .vertices * r .vertices) (r .slice))
+unfolding byReading
+by-graph zero s r e = refl
+by-graph (suc k) s r e = absurd (omega arith)
+
 pub text-refused : (words : List (List ℕ)) (text : List ℕ) (s : Settings) → settingsOfWords words ≡ chosen s → length text ≤ 65536
     → reading text .refused ≢ 0 → Prints words text (refusedLine (reading text .refused) (reading text .line))
-unfolding programVerdict byWords PrintsAt
+unfolding programVerdict
 text-refused words text s e h d =
-    subst⁻¹ (λ (w : Words). PrintsAt (byWords w text) (refusedLine (reading text .refused) (reading text .line))) e
-    (rw (le-ltb 65536 (length text) h, byWords) (reading-refused (reading text .refused) s (reading text) d))
-
--- a wrong count of words is `refused 32 0`
-pub wrong-count : (words : List (List ℕ)) (text : List ℕ) → length words ≢ 3 → Prints words text (refusedLine 32 0)
-unfolding programVerdict settingsOfWords byWords PrintsAt
-wrong-count [] text d = refl
-wrong-count (a ∷ []) text d = refl
-wrong-count (a ∷ b ∷ []) text d = refl
-wrong-count (a ∷ b ∷ c ∷ []) text d = absurd (d refl)
-wrong-count (a ∷ b ∷ c ∷ e ∷ es) text d = refl
+    refusal-prints words text (reading text .refused) (reading text .line)
+    (ap (λ (w : Words). byWords w text) e ∙ by-text s text (le-ltb 65536 (length text) h) ∙ by-refusal (reading text .refused) s (reading text) d)
 
 -- ---- one output
 
@@ -123,7 +146,7 @@ at-once (refusal k line) a b p q = p ∙ sym q
 at-once (listing s n t) a b p q =
     let R = rules (byTable n t) s in
     p .2
-    ∙ ap (λ (k : ℕ). printed (fullList R n) ++ endLine (held (length (fullSets R n))) (held k)) (length-once R (p .0) (q .0) (fresh n) (p .1) (q .1))
+    ∙ ap (λ (k : ℕ). groupLines (byTable n t) (fullSets R n) ++ endLine (held (length (fullSets R n))) (held k)) (length-once R (p .0) (q .0) (fresh n) (p .1) (q .1))
     ∙ sym (q .2)
 
 -- the words and the text determine what is printed
@@ -169,14 +192,17 @@ module _ (s : Settings) (n : ℕ) (t : List ℕ) (valid : refuseTable n t 0 ≡ 
       let g = d .number in
       omega arith
 
+  -- and print page by page a line for each group of the full list
+  pub pages-listed : printedPages rs ≡ groupLines (byTable n t) (fullSets (rules (byTable n t) s) n)
+  pages-listed = pages-printed (byTable n t) s rs (fresh n) chain ∙ ap printed (demand .whole ended .0) ∙ list-printed (byTable n t) s n
+
   at-pages : PrintsAt (listing s n t) (printedPages rs ++ endLine (held (allGroups rs)) (held (allSteps rs)))
   unfolding PrintsAt
   at-pages = (
     allSteps rs,
     demand .whole ended .1,
     ap₂ {C = List ℕ} (λ l r. l ++ r)
-        (pages-printed (byTable n t) s rs (fresh n) chain ∙ ap printed (demand .whole ended .0))
-        (ap (λ (g : ℕ). endLine (held g) (held (allSteps rs))) all-groups),
+        pages-listed (ap (λ (g : ℕ). endLine (held g) (held (allSteps rs))) all-groups),
   )
 
 -- replies to page calls from fresh on, of which one has said Finished, print page by page what the program prints

@@ -10,10 +10,11 @@ use native.Mathlib.Nat.{zero-add, add-assoc, zero-mul, add-mul, mul-assoc, mul-c
 use native.Mathlib.Omega.{arith}
 use lib.ListN.{length, getD}
 use lib.Dec.{leb, eqb}
-use borrow.Author.Tests.{leb-true, le-leb, eqb-true, eqb-false, ne-eqb}
+use borrow.Author.Tests.{leb-true, le-leb, eqb-true, eqb-false}
 use Rattle.model.specs.Text.{onto, fieldsOf, digits, decimal, numberOf, same}
 use Rattle.model.specs.EdgeText.{value, Number, Numbered}
 use Rattle.theory.proofs.basics.Tests.{Test, test-and, test-or, test-not, test-eq, test-self}
+use Rattle.theory.proofs.text.EdgeTextCuts.{onto-field, field-first, field-last}
 
 -- ---- numbers
 
@@ -84,21 +85,6 @@ unspaced-number : (f : List ℕ) (k : ℕ) → Number f k → List·Memᴰ 32 f 
 unspaced-number f k h m = let r = h .digits 32 m in omega arith
 
 -- ---- fields
-
-onto-field : (b : ℕ) (bs : List ℕ) → b ≢ 32 → fieldsOf (b ∷ bs) ≡ onto b (fieldsOf bs)
-unfolding fieldsOf
-onto-field b bs h = ap (λ (t : Bool). cond t ([] ∷ fieldsOf bs) (onto b (fieldsOf bs))) (ne-eqb b 32 h)
-
-field-first : (f bs : List ℕ) → (List·Memᴰ 32 f → ⊥) → fieldsOf (f ++ (32 ∷ bs)) ≡ f ∷ fieldsOf bs
-unfolding fieldsOf
-field-first [] bs h = refl
-field-first (b ∷ f) bs h =
-    onto-field b (f ++ (32 ∷ bs)) (λ e. h (List·Memᴰ·head (sym e))) ∙ ap (onto b) (field-first f bs (λ m. h (List·Memᴰ·tail m)))
-
-field-last : (f : List ℕ) → (List·Memᴰ 32 f → ⊥) → fieldsOf f ≡ f ∷ []
-unfolding fieldsOf
-field-last [] h = refl
-field-last (b ∷ f) h = onto-field b f (λ e. h (List·Memᴰ·head (sym e))) ∙ ap (onto b) (field-last f (λ m. h (List·Memᴰ·tail m)))
 
 -- two numbers parted by a space
 two-fields : (a b : List ℕ) (x y : ℕ) → Number a x → Number b y → fieldsOf (a ++ (32 ∷ b)) ≡ a ∷ b ∷ []

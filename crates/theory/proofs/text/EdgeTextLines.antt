@@ -6,9 +6,10 @@ use mathlib.Core.Logic.{_≢_, _⊎_, inl, inr, ⊎-elim}
 use mathlib.Core.Bool.{Bool, true, false, cond}
 use mathlib.Core.List.{List, [], _∷_, _++_, append-assoc, append-nil, List·Memᴰ, List·Memᴰ·head, List·Memᴰ·tail, List·Memᴰ·not-nil, List·Memᴰ·cases-cons, Memᴰ·append-left, Memᴰ·append-right}
 use lib.Dec.{eqb}
-use borrow.Author.Tests.{eqb-true, eqb-false, ne-eqb}
+use borrow.Author.Tests.{eqb-true, eqb-false}
 use Rattle.model.specs.Text.{onto, linesOf}
 use Rattle.model.specs.EdgeText.{ended, LastOpen, Lines}
+use Rattle.theory.proofs.text.EdgeTextCuts.{line-first, line-last}
 
 -- a list of at least one element is not empty
 pub cons-not-nil {ℓ} : {A : Type ℓ} (x : A) (xs : List A) → x ∷ xs ≢ []
@@ -19,25 +20,6 @@ cons-not-nil {A = A} x xs e = subst family e tt
     family (y ∷ ys) = Unit {0}
 
 -- ---- there are no others
-
--- a byte other than 10 goes before what the first line already holds
-onto-line : (b : ℕ) (bs : List ℕ) → b ≢ 10 → linesOf (b ∷ bs) ≡ onto b (linesOf bs)
-unfolding linesOf
-onto-line b bs h = ap (λ (t : Bool). cond t ([] ∷ linesOf bs) (onto b (linesOf bs))) (ne-eqb b 10 h)
-
--- a line that ends in byte 10
-line-first : (l bs : List ℕ) → (List·Memᴰ 10 l → ⊥) → linesOf (l ++ (10 ∷ bs)) ≡ l ∷ linesOf bs
-unfolding linesOf
-line-first [] bs h = refl
-line-first (b ∷ l) bs h =
-    onto-line b (l ++ (10 ∷ bs)) (λ e. h (List·Memᴰ·head (sym e))) ∙ ap (onto b) (line-first l bs (λ m. h (List·Memᴰ·tail m)))
-
--- a last line that lacks it
-line-last : (b : ℕ) (l : List ℕ) → (List·Memᴰ 10 (b ∷ l) → ⊥) → linesOf (b ∷ l) ≡ (b ∷ l) ∷ []
-unfolding linesOf
-line-last b [] h = onto-line b [] (λ e. h (List·Memᴰ·head (sym e)))
-line-last b (c ∷ l) h =
-    onto-line b (c ∷ l) (λ e. h (List·Memᴰ·head (sym e))) ∙ ap (onto b) (line-last c l (λ m. h (List·Memᴰ·tail m)))
 
 lines-ended : (ls : List (List ℕ)) (bs : List ℕ) → ((l : List ℕ) → List·Memᴰ l ls → List·Memᴰ 10 l → ⊥) → linesOf (ended ls ++ bs) ≡ ls ++ linesOf bs
 lines-ended [] bs h = refl

@@ -103,31 +103,30 @@ comment-kind (c ∷ l) = go (eqb c 32) refl
     go true e = of-comment (inr (l, ap (λ (x : ℕ). 99 ∷ x ∷ l) (eqb-true c 32 e))) (at true e)
     go false e = of-none (tight-unheaded 99 c l (eqb-false c 32 e)) (at false e)
 
-problem-kind : (l : List ℕ) → Kind (112 ∷ l)
-unfolding lineStep fault unspaced
-problem-kind [] = of-none (alone-unheaded 112 (omega arith)) (λ room r. refl)
-problem-kind (c ∷ l) = go (eqb c 32) refl
+-- a letter other than c, by the byte after it
+letter-kind : (b : ℕ) → b ≢ 99 → (later : ℕ → Reading → List ℕ → Step)
+    → ((l : List ℕ) (room : ℕ) (r : Reading) → lineStep room r (b ∷ l) ≡ fault 31 (unspaced l) (later room r l))
+    → ((l : List ℕ) → Letter b (b ∷ l) → ((room : ℕ) (r : Reading) → lineStep room r (b ∷ l) ≡ later room r l) → Kind (b ∷ l)) → (l : List ℕ) → Kind (b ∷ l)
+unfolding fault unspaced
+letter-kind b h later by of [] = of-none (alone-unheaded b h) (by [])
+letter-kind b h later by of (c ∷ l) = go (eqb c 32) refl
   where
-    at : (t : Bool) → eqb c 32 ≡ t → (room : ℕ) (r : Reading)
-        → lineStep room r (112 ∷ c ∷ l) ≡ fault 31 (not t) (fault 34 (r .passed) (pFields room (fieldsOf (112 ∷ c ∷ l))))
-    at t e room r = ap (λ (b : Bool). fault 31 (not b) (fault 34 (r .passed) (pFields room (fieldsOf (112 ∷ c ∷ l))))) e
+    at : (t : Bool) → eqb c 32 ≡ t → (room : ℕ) (r : Reading) → lineStep room r (b ∷ c ∷ l) ≡ fault 31 (not t) (later room r (c ∷ l))
+    at t e room r = by (c ∷ l) room r ∙ ap (λ (x : Bool). fault 31 (not x) (later room r (c ∷ l))) e
 
-    go : (t : Bool) → eqb c 32 ≡ t → Kind (112 ∷ c ∷ l)
-    go true e = of-problem (l, ap (λ (x : ℕ). 112 ∷ x ∷ l) (eqb-true c 32 e)) (at true e)
-    go false e = of-none (tight-unheaded 112 c l (eqb-false c 32 e)) (at false e)
+    go : (t : Bool) → eqb c 32 ≡ t → Kind (b ∷ c ∷ l)
+    go true e = of (c ∷ l) (l, ap (λ (x : ℕ). b ∷ x ∷ l) (eqb-true c 32 e)) (at true e)
+    go false e = of-none (tight-unheaded b c l (eqb-false c 32 e)) (at false e)
+
+problem-kind : (l : List ℕ) → Kind (112 ∷ l)
+unfolding lineStep
+problem-kind =
+    letter-kind 112 (omega arith) (λ room r l. fault 34 (r .passed) (pFields room (fieldsOf (112 ∷ l)))) (λ l room r. refl) (λ l. of-problem)
 
 edge-kind : (l : List ℕ) → Kind (101 ∷ l)
-unfolding lineStep fault unspaced
-edge-kind [] = of-none (alone-unheaded 101 (omega arith)) (λ room r. refl)
-edge-kind (c ∷ l) = go (eqb c 32) refl
-  where
-    at : (t : Bool) → eqb c 32 ≡ t → (room : ℕ) (r : Reading)
-        → lineStep room r (101 ∷ c ∷ l) ≡ fault 31 (not t) (fault 33 (not (r .passed)) (eFields r (fieldsOf (101 ∷ c ∷ l))))
-    at t e room r = ap (λ (b : Bool). fault 31 (not b) (fault 33 (not (r .passed)) (eFields r (fieldsOf (101 ∷ c ∷ l))))) e
-
-    go : (t : Bool) → eqb c 32 ≡ t → Kind (101 ∷ c ∷ l)
-    go true e = of-edge (l, ap (λ (x : ℕ). 101 ∷ x ∷ l) (eqb-true c 32 e)) (at true e)
-    go false e = of-none (tight-unheaded 101 c l (eqb-false c 32 e)) (at false e)
+unfolding lineStep
+edge-kind =
+    letter-kind 101 (omega arith) (λ room r l. fault 33 (not (r .passed)) (eFields r (fieldsOf (101 ∷ l)))) (λ l room r. refl) (λ l. of-edge)
 
 -- each line is of one kind
 pub kind : (l : List ℕ) → Kind l

@@ -43,7 +43,7 @@ abbrev pub State : ℕ → List Line → Reading → Type 0
 State room xs r = ((r ≡ start) × Comments xs) ⊎ Going room xs r
 
 -- the reading that an e line leaves
-abbrev joinedBy : Reading → ℕ → ℕ → Reading
+abbrev pub joinedBy : Reading → ℕ → ℕ → Reading
 joinedBy r u v =
     record {
       passed = true;
@@ -60,11 +60,12 @@ Finds room xs l (next s) = (x : Line) × Spells l x × NoFault (lineFaults room 
 
 -- ---- the reader's tests of U and V
 
--- 36
-abbrev outBy : ℕ → ℕ → ℕ → Bool
+-- 36: U or V is out of range
+abbrev pub outBy : ℕ → ℕ → ℕ → Bool
 outBy n u v = eqb u 0 || ltb n u || eqb v 0 || ltb n v
 
-out-test : (n u v : ℕ) → Test (outBy n u v) (OutOfRange n u v)
+-- says whether U or V is out of range
+pub out-test : (n u v : ℕ) → Test (outBy n u v) (OutOfRange n u v)
 out-test n u v = (λ e. there (tests .0 e), λ o. tests .1 (back o))
   where
     tests : Test (outBy n u v) ((((u ≡ 0) ⊎ (n < u)) ⊎ (v ≡ 0)) ⊎ (n < v))
@@ -82,8 +83,8 @@ out-test n u v = (λ e. there (tests .0 e), λ o. tests .1 (back o))
     back (inr (inr (inl q))) = inl (inr (omega arith))
     back (inr (inr (inr q))) = inr q
 
--- 38
-abbrev repeatedBy : Reading → ℕ → ℕ → Bool
+-- 38: the cell of the pair is set
+abbrev pub repeatedBy : Reading → ℕ → ℕ → Bool
 repeatedBy r u v = eqb (getD (r .table) ((u - 1) * r .vertices + (v - 1)) 0) 1
 
 -- ---- the step

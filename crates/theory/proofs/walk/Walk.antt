@@ -8,6 +8,7 @@ use mathlib.Core.Logic.{⊎-elim}
 use native.Mathlib.Nat.{zero-add, suc-add}
 use native.Mathlib.Omega.{arith}
 use Rattle.model.specs.Walk.{Position, Rules, has, fresh, finished, decided, advance, retreat, step, after, found, groupsOf, records, fullSets}
+use Rattle.theory.specs.Replies.{gone}
 pub use Rattle.theory.proofs.basics.Tests.{and-right}
 use Rattle.theory.proofs.basics.Tests.{fails}
 use Rattle.theory.proofs.walk.Remaining.{Fit, remaining, completions, Completes, fresh-remaining, fresh-fit, advance-fit, retreat-fit, advance-remaining, untaken-remaining, untaken-stays, finished-untaken, finished-decided, retreat-remaining, decided-completions, completions-complete, passed}
@@ -110,11 +111,6 @@ module _ (R : Rules) where
   not-and : (d o : Bool) → (not d && o) ≡ false → o ≡ true → d ≡ true
   not-and true o e f = refl
   not-and false o e f = absurd (false≢true (sym e ∙ f))
-
-  -- the groups that k steps from p pass
-  unfoldable pub gone : ℕ → Position → List Position
-  gone zero p = []
-  gone (suc k) p = groupsOf R (p ∷ []) ++ gone k (step R p)
 
 module _ (R : Rules) (n : ℕ) (law : Lawful R n) where
   -- a step from a valid position of n ranks leads to one

@@ -15,7 +15,8 @@ use Rattle.model.specs.Listing.{dead, rules}
 use Rattle.model.specs.Walking.{stretch, MetOnce, MetInOrder, TheWalk, Walks}
 use Rattle.theory.proofs.basics.Tests.{trichotomy, test-and, test-self, test-fails}
 use Rattle.theory.proofs.walk.Remaining.{Fit, fresh-fit, untaken-stays, finished-untaken, finished-decided}
-use Rattle.theory.proofs.walk.Walk.{Lawful, gone, gone-first, gone-left, groups-append, decided-up, after-valid, after-add, finished-done}
+use Rattle.theory.specs.Replies.{gone}
+use Rattle.theory.proofs.walk.Walk.{Lawful, gone-first, gone-left, groups-append, decided-up, after-valid, after-add, finished-done}
 use Rattle.theory.proofs.walk.Ends.{walk-ends, length-once}
 use Rattle.theory.proofs.walk.Visited.{visited-iff}
 use Rattle.theory.proofs.walk.Lawful.{lawful}

@@ -3,8 +3,8 @@ use mathlib.Core.Path.{sym}
 use native.Mathlib.Omega.{arith}
 use lib.ListN.{replicate}
 use lib.Seq.{length-take-le}
-use Rattle.print.proofs.Places.{puts-length}
-use Rattle.listing.proofs.Paging.{fresh-part}
+use Rattle.print.proofs.Puts.{puts-within}
+use Rattle.listing.proofs.PageByPage.{fresh-part}
 use borrow.Author.Needs.{needs}
 use Rattle.cli.proofs.program.list.Statement.{statement}
 use Rattle.cli.proofs.program.list.Tie as tie
@@ -55,17 +55,11 @@ slice-aggregate-end-line c = search needs
 end-line-requires : tie.Need-end-line-requires
 end-line-requires c κs = search needs
 
-array-share-prefix-bytes : tie.Need-array-share-prefix-bytes
-array-share-prefix-bytes c = search needs
+slice-aggregate-write-first : tie.Need-slice-aggregate-write-first
+slice-aggregate-write-first c = search needs
 
-slice-aggregate-write-all : tie.Need-slice-aggregate-write-all
-slice-aggregate-write-all c =
-    let r = c .before .before .end-line in
-    let w = r .ensures .within in
-    sym (length-take-le (r .result) (r .last .1 .1 .0) (omega (arith, puts-length (r .ensures))))
-
-write-all-requires : tie.Need-write-all-requires
-write-all-requires c κs = search needs
+write-first-requires : tie.Need-write-first-requires
+write-first-requires c κs = puts-within (c .before .before .end-line .ensures)
 
 returns : tie.Need-returns
 returns c = search needs
@@ -85,7 +79,6 @@ list-spec =
     list-all-requires
     slice-aggregate-end-line
     end-line-requires
-    array-share-prefix-bytes
-    slice-aggregate-write-all
-    write-all-requires
+    slice-aggregate-write-first
+    write-first-requires
     returns)

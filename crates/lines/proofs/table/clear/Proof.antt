@@ -1,4 +1,4 @@
--- `dimacs::table::clear` meets its contract. Assumes nothing.
+-- `lines::table::clear` meets its contract. Assumes nothing.
 use Prim.Native.Nat.{ℕ, _≤_, _-_}
 use mathlib.Core.Path.{_≡_, refl, ap, _∙_}
 use mathlib.Core.List.{List, _++_}

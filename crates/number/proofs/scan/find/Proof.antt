@@ -1,4 +1,4 @@
--- `dimacs::scan::find` meets its contract: none of the places passed holds the byte. Assumes nothing.
+-- `number::scan::find` meets its contract: none of the places passed holds the byte. Assumes nothing.
 use Prim.Native.Nat.{ℕ, _≤_, _<_, _-_}
 use mathlib.Core.Path.{_≡_}
 use native.Mathlib.Omega.{arith}

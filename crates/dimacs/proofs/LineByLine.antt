@@ -1,4 +1,4 @@
--- From line to line, and at the end, to the definition's reply. Assumes nothing.
+-- Line by line: what was read so far, and what is left of the text, give the definition's reply. Assumes nothing.
 use Prim.Native.Nat.{ℕ, suc, _+_, _*_, _-_, _≤_, _<_}
 use mathlib.Core.Path.{_≡_, refl, sym, ap, subst, _∙_}
 use mathlib.Core.Bool.{true, false}
@@ -22,12 +22,6 @@ use Rattle.number.proofs.Splits.{lines-at}
 
 pub replies-as : {x y : TextReply} {t : List ℕ} {a : TextAnswer} → TextReplies x t a → x ≡ y → TextReplies y t a
 replies-as {t = t} {a = a} p e = subst (λ (z : TextReply). TextReplies z t a) e p
-
--- a refusal whose claimed bytes were cleared
-pub refusal-replies : (k line : ℕ) (s : State) (t t' : List ℕ) → t' ≡ replicate (s .vertices * s .vertices) 0 ++ drop (s .vertices * s .vertices) t →
-    TextReplies (refusedAt k line (readingOf s t) t) t' (record { refusal = k; vertices = 0; edges = 0; line = line })
-unfolding refusedAt
-refusal-replies k line s t t' e = record { refusal = refl; vertices = refl; edges = refl; line = refl; table = e }
 
 -- ---- the end of the text
 
@@ -119,7 +113,7 @@ module _ {text t₀ t : List ℕ} {s : State} {at line : ℕ} (f : SoFar text t�
     -- the definition reads it next
     reads-here : readFrom line (readingOf s t) (here ∷ linesOf (drop (end + 1) text)) t₀ ≡ readText text t₀
     unfolding here
-    reads-here = ap (λ (ls : List (List ℕ)). readFrom line (readingOf s t) ls t₀) (sym (lines-at text at end d h)) ∙ f .reads
+    reads-here = ap (λ (ls : List (List ℕ)). readFrom line (readingOf s t) ls t₀) (sym (lines-at d h)) ∙ f .reads
 
     -- it is at fault
     pub so-faulty : {k : ℕ} {t' t'' : List ℕ} {a : TextAnswer} → LineRead (lineStep (length t) (readingOf s t) (take (end - at) (drop at text))) s t t' (Bad k) →

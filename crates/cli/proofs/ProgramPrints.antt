@@ -2,7 +2,7 @@
 -- hands over the words and the text, and writes the bytes, is taken from the library's word.
 -- Assumes nothing.
 use Prim.Native.Nat.{ℕ, _*_, _<_}
-use mathlib.Core.Path.{_≡_, refl, sym, ap, _∙_, subst}
+use mathlib.Core.Path.{_≡_, refl, sym, ap, _∙_}
 use mathlib.Core.Bool.{Bool, true, false}
 use mathlib.Core.Logic.{_⊎_, inl, inr}
 use mathlib.Core.List.{List, [], _∷_, _++_}
@@ -13,8 +13,9 @@ use lib.Seq.{take-all}
 use borrow.Author.Tests.{ltb-true, ltb-false, lt-ltb}
 use Rattle.model.specs.Groups as groups
 use Rattle.model.specs.Text.{numberOf}
-use Rattle.model.specs.Program.{Words, chosen, Verdict, refusal, three, settingsOfWords, byWords, programVerdict, PrintsAt, Prints, refusedLine, endLine, printedPages}
-use Rattle.theory.proofs.program.Program.{words-refused}
+use Rattle.model.specs.Program.{Words, chosen, three, settingsOfWords, byWords, programVerdict, Prints, refusedLine, endLine}
+use Rattle.theory.specs.Printed.{printedPages}
+use Rattle.theory.proofs.program.Program.{refusal-prints, words-refused}
 use Rattle.number.proofs.Numbers.{number-empty, number-long}
 use Rattle.isolation.specs.Numbers as numbers
 use Rattle.isolation.specs.declared.Settings.{Settings}
@@ -26,7 +27,7 @@ use Rattle.cli.specs.declared.words.Words.the-variants.{Wrong, Chosen}
 use Rattle.listing.specs.List.{Ran}
 use Rattle.cli.specs.Verdict.{verdictOf, Judged}
 use Rattle.cli.specs.Words.{wordsOf, WordsRead}
-use Rattle.listing.proofs.Paging.{ran-prints}
+use Rattle.listing.proofs.PageByPage.{ran-prints}
 
 -- ---- words and text as they are handed over
 
@@ -73,10 +74,6 @@ cut-same s text = go (ltb 65536 (length text)) refl
 
 -- ---- what is printed
 
-at-refusal : (k line : ℕ) → PrintsAt (refusal k line) (refusedLine k line)
-unfolding PrintsAt
-at-refusal k line = refl
-
 module _ (words : List (List ℕ)) (count : ℕ) (a b c : List ℕ) (handed : Handed words count a b c) (text : List ℕ) where
   -- The words are refused, whatever the text.
   pub wrong-prints : (k : ℕ) → WordsRead count a b c (Wrong k) → Prints words text (refusedLine k 0)
@@ -92,8 +89,7 @@ module _ (words : List (List ℕ)) (count : ℕ) (a b c : List ℕ) (handed : Ha
 
     -- The text is refused.
     pub refused-prints : (k line : ℕ) → Judged (take 65537 text) table (Refused k line) → Prints words text (refusedLine k line)
-    refused-prints k line j =
-        subst (λ (v : Verdict). PrintsAt v (refusedLine k line)) (sym (judged-same (Refused k line) j)) (at-refusal k line)
+    refused-prints k line j = refusal-prints words text k line (judged-same (Refused k line) j)
 
     -- The text is a graph, and its groups are listed page by page: what is printed of the pages, and the end line.
     pub listed-prints : (n : ℕ) → Judged (take 65537 text) table (Listing n) → (r : Totals) (ran : Ran n (take (n * n) table) (numbers.settingsOf s) r)

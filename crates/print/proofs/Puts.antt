@@ -2,7 +2,6 @@
 use Prim.Native.Nat.{ℕ, _+_, _≤_, _<_}
 use mathlib.Core.Path.{_≡_, sym, ap, ap₂, _∙_, subst}
 use mathlib.Core.List.{List, [], _∷_, _++_, append-assoc}
-use native.Mathlib.Nat.{zero-add}
 use native.Mathlib.Numerals.{add-one}
 use native.Mathlib.Omega.{arith}
 use lib.ListN.{length, getD, take, drop, set, length-append, length-drop, take-append-drop}
@@ -14,12 +13,12 @@ pub puts-as : {b : List ℕ} {s : ℕ} {x y a : List ℕ} {e : ℕ} → x ≡ y 
 puts-as {b} {s} {x} {y} {a} {e} q p = subst (λ (l : List ℕ). Puts b s l a e) q p
 
 -- nothing is put
-pub puts-none : (b : List ℕ) (s : ℕ) → s ≤ length b → Puts b s [] b s
-puts-none b s h = record { place = omega arith; within = h; bytes = sym (take-append-drop s b) }
+pub puts-none : {b : List ℕ} {s : ℕ} → s ≤ length b → Puts b s [] b s
+puts-none {b} {s} h = record { place = omega arith; within = h; bytes = sym (take-append-drop s b) }
 
 -- one byte is put
-pub puts-one : (b : List ℕ) (s x : ℕ) → s < length b → Puts b s (x ∷ []) (set b s x) (s + 1)
-puts-one b s x h =
+pub puts-one : {b : List ℕ} {s x : ℕ} → s < length b → Puts b s (x ∷ []) (set b s x) (s + 1)
+puts-one {b} {s} {x} h =
     record {
       place = omega arith;
       within = omega arith;
@@ -36,6 +35,10 @@ puts-length {b} {s} {out} {a} {e} p =
     ap length (p .bytes)
     ∙ length-append (take s b) (out ++ drop e b)
     ∙ (let o = length-append out (drop e b) in omega arith)
+
+-- and so the place after what was put is within it
+pub puts-within : {b : List ℕ} {s : ℕ} {out a : List ℕ} {e : ℕ} → Puts b s out a e → e ≤ length a
+puts-within p = let w = p .within in omega (arith, puts-length p)
 
 -- one after the other
 pub puts-then : {b : List ℕ} {s : ℕ} {x m : List ℕ} {e : ℕ} {y a : List ℕ} {f : ℕ} → Puts b s x m e → Puts m e y a f → Puts b s (x ++ y) a f
@@ -73,11 +76,7 @@ puts-then {b} {s} {x} {m} {e} {y} {a} {f} p q =
 
 -- and one byte after that
 pub puts-more : {b : List ℕ} {s : ℕ} {x m : List ℕ} {e : ℕ} → Puts b s x m e → (z : ℕ) → e < length m → Puts b s (x ++ (z ∷ [])) (set m e z) (e + 1)
-puts-more {b} {s} {x} {m} {e} p z h = puts-then p (puts-one m e z h)
-
--- what is put from the start on is what the buffer then starts with
-pub puts-front : {b : List ℕ} {out a : List ℕ} {e : ℕ} → Puts b 0 out a e → take e a ≡ out
-puts-front {b} {out} {a} {e} p = ap (take e) (p .bytes) ∙ take-at out (drop e b) e (sym (p .place ∙ zero-add (length out)))
+puts-more p z h = puts-then p (puts-one h)
 
 -- the word's next byte
 pub puts-next : {b : List ℕ} {s : ℕ} {m : List ℕ} (w : List ℕ) (i : ℕ) → Puts b s (take i w) m (s + i) → i < length w → s + i < length m
@@ -88,5 +87,4 @@ puts-next {b} {s} {m} w i p h g =
 
 -- all of the word
 pub puts-word : {b : List ℕ} {s : ℕ} {m : List ℕ} (w : List ℕ) (i : ℕ) → Puts b s (take i w) m (s + i) → i ≡ length w → Puts b s w m (s + i)
-puts-word {b} {s} {m} w i p e =
-    puts-as (ap (λ (k : ℕ). take k w) e ∙ take-length w) p
+puts-word w i p e = puts-as (ap (λ (k : ℕ). take k w) e ∙ take-length w) p

@@ -1,0 +1,180 @@
+-- Page by page: the replies so far, one more, and why this ends. Assumes nothing.
+use Prim.Native.Nat.{ℕ, zero, suc, _+_, _*_, _≤_, _<_}
+use mathlib.Core.Path.{_≡_, refl, sym, ap, ap₂, _∙_, subst, subst₂}
+use mathlib.Core.Bool.{true, false}
+use mathlib.Core.Logic.{_≢_, inl, inr}
+use mathlib.Core.List.{List, [], _∷_, _++_}
+use native.Mathlib.Nat.{not-suc-le-zero}
+use native.Mathlib.Omega.{arith}
+use lib.ListN.{length, take, replicate}
+use borrow.Author.Tests.{eqb-true, eqb-false}
+use Rattle.model.specs.Graph.{byTable}
+use Rattle.model.specs.Groups.{Settings}
+use Rattle.model.specs.Walk.{Position, Rules, fresh, finished, page, stoppedFinished}
+use Rattle.model.specs.Listing.{rules}
+use Rattle.model.specs.Calls.{refuseTable, refuseSettings, refusePage, PageReply, pageCall}
+use Rattle.model.specs.Demand.{leftAt, allSteps, allGroups, SomeFinished, Demand3, PageBounds}
+use Rattle.model.specs.Program.{held, endLine, programVerdict, listing, Prints}
+use Rattle.theory.specs.Replies.{Replied, Chain}
+use Rattle.theory.specs.Printed.{printedPages}
+use Rattle.theory.proofs.basics.Tests.{fails}
+use Rattle.theory.proofs.walk.Remaining.{Fit, fresh-fit}
+use Rattle.theory.proofs.walk.Walk.{after-valid}
+use Rattle.theory.proofs.walk.Ends.{weight, stretch-falls}
+use Rattle.theory.proofs.calls.Pages.{replied, page-does, went-finished, chain-demand, table-lawful, call-progress}
+use Rattle.theory.proofs.calls.Next.{demand-accepted}
+use Rattle.theory.proofs.program.Printed.{held-add}
+use Rattle.theory.proofs.program.Program.{all-groups, pages-listed, pages-print}
+use Rattle.page.specs.declared.PageAnswer.{PageAnswer}
+use Rattle.page.specs.Answer.{PageReplies}
+use Rattle.listing.specs.declared.Turn.{Turn}
+use Rattle.listing.specs.declared.totals.Totals.{Totals}
+use Rattle.listing.specs.List.{turnReply, Turned, Paged, Ran}
+
+-- ---- one page
+
+-- the first n of more zeros are the fresh position
+pub fresh-part : (n m : ℕ) → n ≤ m → take n (replicate m 0) ≡ fresh n
+fresh-part zero m h = refl
+fresh-part (suc n) zero h = absurd (not-suc-le-zero h)
+fresh-part (suc n) (suc m) h = ap (λ (l : List ℕ). 0 ∷ l) (fresh-part n m (omega arith))
+
+-- the used entries are within the output
+pub used-fits : {budget : ℕ} {p : Position} {out : List ℕ} {r : PageReply} {a : PageAnswer} {left after : List ℕ}
+    → PageBounds budget p out r → PageReplies a left after r → a .used ≤ length after
+used-fits b e =
+    let u = b .used-within in
+    let l = b .output-length in
+    omega (arith, e .used, ap length (e .output))
+
+-- ---- one reply more
+
+module _ (R : Rules) (r : PageReply) where
+  chain-more : (rs : List PageReply) (p : Position) → Chain R p rs → Replied R (leftAt rs p) r → Chain R p (rs ++ (r ∷ []))
+  unfolding leftAt
+  chain-more [] p c h = (h, tt)
+  chain-more (q ∷ rs) p c h = (c .0, chain-more rs (q .position) (c .1) h)
+
+left-more : (rs : List PageReply) (r : PageReply) (p : Position) → leftAt (rs ++ (r ∷ [])) p ≡ r .position
+unfolding leftAt
+left-more [] r p = refl
+left-more (q ∷ rs) r p = left-more rs r (q .position)
+
+groups-more : (rs : List PageReply) (r : PageReply) → allGroups (rs ++ (r ∷ [])) ≡ allGroups rs + r .groups
+unfolding allGroups
+groups-more [] r = omega arith
+groups-more (q ∷ rs) r = let h = groups-more rs r in omega arith
+
+steps-more : (rs : List PageReply) (r : PageReply) → allSteps (rs ++ (r ∷ [])) ≡ allSteps rs + r .steps
+unfolding allSteps
+steps-more [] r = omega arith
+steps-more (q ∷ rs) r = let h = steps-more rs r in omega arith
+
+ended-more : (rs : List PageReply) (r : PageReply) → r .refused ≡ 0 → r .stop ≡ stoppedFinished → SomeFinished (rs ++ (r ∷ []))
+ended-more [] r a b = inl (a, b)
+ended-more (q ∷ rs) r a b = inr (ended-more rs r a b)
+
+-- a held total of the replies so far, and one more
+held-more : (a b : ℕ) {g c : ℕ} → g ≡ held a → c ≡ a + b → held (g + b) ≡ held c
+held-more a b e f = ap (λ (x : ℕ). held (x + b)) e ∙ held-add a b ∙ ap (λ (x : ℕ). held x) (sym f)
+
+-- ---- the pages of one graph
+
+-- before the first page
+pub paged-none : {n : ℕ} {t : List ℕ} {s : Settings} {p : Position} → p ≡ fresh n → Paged n t s p 0 0
+unfolding leftAt allGroups allSteps
+paged-none e = record { replies = []; chain = tt; left = sym e; all-groups = refl; all-steps = refl }
+
+module _ {n : ℕ} {t : List ℕ} {s : Settings} (valid : refuseTable n t 0 ≡ 0) (proper : refuseSettings s 0 ≡ 0) {p : Position} {g k : ℕ}
+    (paged : Paged n t s p g k) (out : List ℕ) (work : ℕ) (room : 8 * n ≤ work) where
+  abbrev R : Rules
+  R = rules (byTable n t) s
+
+  abbrev reply : PageReply
+  reply = turnReply n t s p out work
+
+  demand : Demand3 R n (paged .replies)
+  demand = chain-demand R n (table-lawful n t s valid) (paged .replies) (paged .chain)
+
+  -- the next page is accepted
+  accepted : reply .refused ≡ 0
+  accepted =
+      subst (λ (q : Position). turnReply n t s q out work .refused ≡ 0) (paged .left)
+      (demand-accepted n t s valid proper (paged .replies) demand 4294967295 out work room)
+
+  answered : Replied R p reply
+  unfolding pageCall
+  answered = replied R (refusePage n t s p work) (page R 4294967295 (length out) p) p out (λ z. page-does R 4294967295 (length out) p)
+
+  paged-more : Paged n t s (reply .position) (held (g + reply .groups)) (held (k + reply .steps))
+  paged-more =
+      record {
+        replies = paged .replies ++ (reply ∷ []);
+        chain = chain-more R reply (paged .replies) (fresh n) (paged .chain) (subst (λ (q : Position). Replied R q reply) (sym (paged .left)) answered);
+        left = left-more (paged .replies) reply (fresh n);
+        all-groups = held-more (allGroups (paged .replies)) (reply .groups) (paged .all-groups) (groups-more (paged .replies) reply);
+        all-steps = held-more (allSteps (paged .replies)) (reply .steps) (paged .all-steps) (steps-more (paged .replies) reply);
+      }
+
+  paged-ran : reply .stop ≡ stoppedFinished → Ran n t s (record { groups = held (g + reply .groups); steps = held (k + reply .steps) })
+  unfolding paged-more
+  paged-ran e =
+      record {
+        replies = paged-more .replies;
+        chain = paged-more .chain;
+        ended = ended;
+        all-groups = paged-more .all-groups;
+        all-steps = paged-more .all-steps;
+        pages = pages-listed s n t valid (paged-more .replies) (paged-more .chain) ended;
+        full-groups = paged-more .all-groups ∙ ap (λ (a : ℕ). held a) (all-groups s n t valid (paged-more .replies) (paged-more .chain) ended);
+        full-steps = (
+          allSteps (paged-more .replies),
+          chain-demand R n (table-lawful n t s valid) (paged-more .replies) (paged-more .chain) .whole ended .1,
+          paged-more .all-steps,
+        );
+      }
+    where
+      ended : SomeFinished (paged .replies ++ (reply ∷ []))
+      ended = ended-more (paged .replies) reply accepted e
+
+  -- where it does not say Finished, the walk was not finished, and so it makes a step
+  paged-falls : reply .stop ≢ stoppedFinished → n + 1 ≤ length out → weight n (reply .position) < weight n p
+  paged-falls d l =
+      subst (λ (q : Position). weight n q < weight n p) (answered .0 .to)
+      (stretch-falls R n (table-lawful n t s valid) (reply .steps) p fit (call-progress n t s 4294967295 p out work accepted unfinished (omega arith) l) (answered .0 .walking))
+    where
+      unfinished : finished p ≡ false
+      unfinished = fails (finished p) (λ f. d (answered .1 accepted .1 (went-finished R p _ _ _ _ (answered .0) f)))
+
+      fit : Fit n p
+      fit =
+          subst (λ (q : Position). Fit n q) (sym (demand .reached) ∙ paged .left)
+          (after-valid R n (table-lawful n t s valid) (allSteps (paged .replies)) (fresh n) (fresh-fit n))
+
+  -- ---- the same by what a turn leaves
+
+  module _ {before left after : List ℕ} {r : Turn} (turned : Turned n t s p out work before left after r) where
+    module _ {g' k' : ℕ} (gs : g' ≡ held (g + r .groups)) (ks : k' ≡ held (k + r .steps)) where
+      same-groups : held (g + reply .groups) ≡ g'
+      same-groups = ap (λ (x : ℕ). held (g + x)) (sym (turned .groups)) ∙ sym gs
+
+      same-steps : held (k + reply .steps) ≡ k'
+      same-steps = ap (λ (x : ℕ). held (k + x)) (sym (turned .steps)) ∙ sym ks
+
+      pub turned-paged : Paged n t s left g' k'
+      turned-paged =
+          subst (λ (q : Position). Paged n t s q g' k') (sym (turned .position)) (subst₂ (λ (x y : ℕ). Paged n t s (reply .position) x y) same-groups same-steps paged-more)
+
+      pub turned-ran : r .finished ≡ true → Ran n t s (record { groups = g'; steps = k' })
+      turned-ran e =
+          subst₂ (λ (x y : ℕ). Ran n t s (record { groups = x; steps = y })) same-groups same-steps (paged-ran (eqb-true _ 1 (sym (turned .finished) ∙ e)))
+
+    pub turned-falls : r .finished ≡ false → n + 1 ≤ length out → weight n left < weight n p
+    turned-falls e l = subst (λ (q : Position). weight n q < weight n p) (sym (turned .position)) (paged-falls (eqb-false _ 1 (sym (turned .finished) ∙ e)) l)
+
+-- What the listing writes page by page, and its end line, are what the program prints.
+pub ran-prints : (words : List (List ℕ)) (text : List ℕ) (s : Settings) (n : ℕ) (t : List ℕ) → programVerdict words text ≡ listing s n t
+    → (r : Totals) (ran : Ran n t s r) → Prints words text (printedPages (ran .replies) ++ endLine (r .groups) (r .steps))
+ran-prints words text s n t e r ran =
+    subst (λ (l : List ℕ). Prints words text (printedPages (ran .replies) ++ l)) (ap₂ endLine (sym (ran .all-groups)) (sym (ran .all-steps)))
+    (pages-print words text s n t e (ran .replies) (ran .chain) (ran .ended))
