@@ -11,13 +11,13 @@ use Rattle.model.specs.Groups.{Settings, settings, VertexSet}
 use Rattle.model.specs.Meaning.{Qualifies}
 use Rattle.model.specs.Walk.{Position, Page, fresh}
 use Rattle.model.specs.Listing.{rules}
-use Rattle.model.specs.Calls.{PageReply, refuseTable, refusePage, replyOf, pageCall}
+use Rattle.model.specs.Calls.{PageReply, refusePage, replyOf, pageCall}
 use Rattle.model.specs.Demand as model
 use Rattle.model.specs.Demand.{joinedOutput, SomeFinished, Demand3}
 use Rattle.theory.proofs.calls.Bounds.{page-bounds}
 use Rattle.theory.proofs.calls.Pages.{call-progress, demand3}
 use Rattle.page.specs.Answer.{PageReplies}
-use Rattle.demand.specs.Demand.{MadeCall, Promised, reported, Calls, EachCall, Every, PageDemand, PageDemanded}
+use Rattle.demand.specs.Demand.{MadeCall, Promised, reported, Calls, EachCall, Every, PageDemanded}
 
 -- ---- a call of `page::page` and its reply in document 01
 

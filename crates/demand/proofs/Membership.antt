@@ -1,31 +1,25 @@
 -- Demand 2 holds of every accepted set query, of every finished list of page calls and of every text.
 -- Assumes nothing.
-use Prim.Native.Nat.{ℕ, zero, suc}
 use mathlib.Core.Path.{_≡_, refl, sym, ap, _∙_}
 use mathlib.Core.Bool.{Bool, true, false}
-use mathlib.Core.List.{List}
 use native.Mathlib.Omega.{arith}
 use lib.ListN.{length}
 use Rattle.model.specs.Below.{bit}
 use Rattle.model.specs.Graph.{onVertices, byTable}
 use Rattle.model.specs.Walk.{fullSets, fullList}
 use Rattle.model.specs.Listing.{rules}
-use Rattle.model.specs.Calls.{byBytes, refuseQuery, queryReply, query}
+use Rattle.model.specs.Calls.{byBytes, refuseQuery, query}
 use Rattle.model.specs.Groups.{settings, qualifies}
 use Rattle.model.specs.Text.{TextReply}
 use Rattle.theory.proofs.calls.Faults.{query-accepted-iff, query-yes-iff}
 use Rattle.theory.proofs.walk.Listing.{lists}
 use Rattle.theory.proofs.text.EdgeText.{accepted-iff, accepted-reply}
 use Rattle.theory.proofs.text.EdgeTextGraph.{read-graph-accepted}
+use Rattle.query.proofs.Answer.{reply-refused}
 use Rattle.demand.specs.Membership.{QueryDemand, ListDemand, ReaderDemand}
 use Rattle.demand.proofs.Demand.{demand}
 
--- a reply has its refusal number
-refused-is : (k : ℕ) (q : Bool) → queryReply k q .refused ≡ k
-unfolding queryReply
-refused-is zero q = refl
-refused-is (suc k) q = refl
-
+-- the number of a yes
 bit-true : (b : Bool) → bit b ≡ 1 → b ≡ true
 bit-true true e = refl
 bit-true false e = absurd (omega arith)
@@ -35,7 +29,7 @@ pub query-demand : QueryDemand
 unfolding query
 query-demand n t set work left notion kind c a h e =
     let s = settings notion kind c in
-    let accepted = sym (refused-is (refuseQuery n t s set (length work)) (qualifies (byTable n t) s (byBytes set))) ∙ sym (h .refused) ∙ e in
+    let accepted = sym (reply-refused (refuseQuery n t s set (length work)) (qualifies (byTable n t) s (byBytes set))) ∙ sym (h .refused) ∙ e in
     let says = query-yes-iff n t s set (length work) (query-accepted-iff n t s set (length work) .0 accepted) in
     (λ y. says .0 (bit-true _ (sym (h .yes) ∙ y)), λ q. h .yes ∙ ap bit (says .1 q))
 

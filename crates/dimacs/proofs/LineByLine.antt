@@ -1,4 +1,4 @@
--- Line by line: what was read so far, and what is left of the text, give the definition's reply. Assumes nothing.
+-- Outcome by line: what was read so far, and what is left of the text, give the definition's reply. Assumes nothing.
 use Prim.Native.Nat.{ℕ, suc, _+_, _*_, _-_, _≤_, _<_}
 use mathlib.Core.Path.{_≡_, refl, sym, ap, subst, _∙_}
 use mathlib.Core.Bool.{true, false}
@@ -11,10 +11,10 @@ use lib.Seq.{drop-drop}
 use borrow.Author.Tests.{eq-eqb, ne-eqb}
 use Rattle.model.specs.Text.{Step, bad, next, lineStep, linesOf, TextReply, refusedAt, readFrom, readText}
 use Rattle.number.specs.Field.{Found}
-use Rattle.lines.specs.Line.{readingOf, start, Fit, LineRead}
+use Rattle.lines.specs.Line.{readingOf, start, ReadingFits, LineRead}
 use Rattle.dimacs.specs.Reply.{TextReplies}
-use Rattle.lines.specs.declared.State.{State}
-use Rattle.lines.specs.declared.Line.the-variants.{Bad, Next}
+use Rattle.lines.specs.declared.Said.{Said}
+use Rattle.lines.specs.declared.Outcome.the-variants.{Bad, Next}
 use Rattle.dimacs.specs.declared.TextAnswer.{TextAnswer}
 use Rattle.number.proofs.Splits.{lines-at}
 
@@ -25,7 +25,7 @@ replies-as {t = t} {a = a} p e = subst (λ (z : TextReply). TextReplies z t a) e
 
 -- ---- the end of the text
 
-module _ (line : ℕ) (s : State) (t : List ℕ) where
+module _ (line : ℕ) (s : Said) (t : List ℕ) where
   pub end-33 : s .passed ≡ false → refusedAt 33 line (readingOf s t) t ≡ readFrom line (readingOf s t) [] t
   unfolding readFrom
   end-33 e = rw e
@@ -55,8 +55,8 @@ module _ (line : ℕ) (s : State) (t : List ℕ) where
 -- ---- from line to line
 
 -- what is left of the text from a place on decides the rest: the first N × N bytes are the definition's table, and the rest is untouched
-pub record SoFar (text t₀ t : List ℕ) (s : State) (at line : ℕ) : Type 0 where
-  pub fit : Fit s (length t₀)
+pub record SoFar (text t₀ t : List ℕ) (s : Said) (at line : ℕ) : Type 0 where
+  pub fit : ReadingFits s (length t₀)
   pub size : length t ≡ length t₀
   pub rest : drop (s .vertices * s .vertices) t ≡ drop (s .vertices * s .vertices) t₀
   pub counted : s .edges < line
@@ -65,8 +65,8 @@ pub record SoFar (text t₀ t : List ℕ) (s : State) (at line : ℕ) : Type 0 w
   pub reads : readFrom line (readingOf s t) (linesOf (drop at text)) t₀ ≡ readText text t₀
 
 -- the state fits the slice as it is now
-pub so-fit : {text t₀ t : List ℕ} {s : State} {at line : ℕ} → SoFar text t₀ t s at line → Fit s (length t)
-so-fit {s = s} f = subst (λ (n : ℕ). Fit s n) (sym (f .size)) (f .fit)
+pub so-fit : {text t₀ t : List ℕ} {s : Said} {at line : ℕ} → SoFar text t₀ t s at line → ReadingFits s (length t)
+so-fit {s = s} f = subst (λ (n : ℕ). ReadingFits s n) (sym (f .size)) (f .fit)
 
 -- before the first line
 pub so-none : (text t : List ℕ) → SoFar text t t start 0 1
@@ -88,13 +88,13 @@ rest-more n n' t t₀ h e =
     rw w at (sym (drop-drop (n' - n) n t) ∙ ap (λ (l : List ℕ). drop (n' - n) l) e ∙ drop-drop (n' - n) n t₀)
 
 -- a refusal speaks only of the bytes past the table
-refused-same : (k line : ℕ) (s : State) (t t' x y : List ℕ) → drop (s .vertices * s .vertices) x ≡ drop (s .vertices * s .vertices) y →
+refused-same : (k line : ℕ) (s : Said) (t t' x y : List ℕ) → drop (s .vertices * s .vertices) x ≡ drop (s .vertices * s .vertices) y →
     refusedAt k line (readingOf s t) x ≡ refusedAt k line (readingOf s t') y
 unfolding refusedAt
 refused-same k line s t t' x y e =
     ap (λ (l : List ℕ). record { refused = k; vertices = 0; stated = 0; line = line; slice = replicate (s .vertices * s .vertices) 0 ++ l }) e
 
-module _ {text t₀ t : List ℕ} {s : State} {at line : ℕ} (f : SoFar text t₀ t s at line) where
+module _ {text t₀ t : List ℕ} {s : Said} {at line : ℕ} (f : SoFar text t₀ t s at line) where
   -- the end of the text
   pub so-ended : {t' : List ℕ} {a : TextAnswer} → length text ≤ at → TextReplies (readFrom line (readingOf s t) [] t) t' a → TextReplies (readText text t₀) t' a
   unfolding readFrom refusedAt linesOf
@@ -131,13 +131,13 @@ module _ {text t₀ t : List ℕ} {s : State} {at line : ℕ} (f : SoFar text t�
         stops = ap (λ (x : Step). elim x [ bad k ↦ refusedAt k line (readingOf s t) t₀ | next r ↦ readFrom (suc line) r (linesOf (drop (end + 1) text)) t₀ ]) step
 
     -- the reading goes on after it
-    pub so-next : {t' : List ℕ} {s' : State} → LineRead (lineStep (length t) (readingOf s t) (take (end - at) (drop at text))) s t t' (Next s') →
+    pub so-next : {t' : List ℕ} {s' : Said} → LineRead (lineStep (length t) (readingOf s t) (take (end - at) (drop at text))) s t t' (Next s') →
         length t' ≡ length t → SoFar text t₀ t' s' (end + 1) (line + 1)
     unfolding here readFrom
     so-next {t'} {s'} w l =
         let k = w .kept in
         record {
-          fit = subst (λ (n : ℕ). Fit s' n) (f .size) (k .fit);
+          fit = subst (λ (n : ℕ). ReadingFits s' n) (f .size) (k .fit);
           size = l ∙ f .size;
           rest = k .rest ∙ rest-more (s .vertices * s .vertices) (s' .vertices * s' .vertices) t t₀ (mul-le-mul (k .grows) (k .grows)) (f .rest);
           counted = omega (arith, k .counted, f .counted);

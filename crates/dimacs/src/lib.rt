@@ -2,10 +2,10 @@
 ghost use mathlib.Core.List.{[]};
 ghost use lib.ListN.{length};
 ghost use Rattle.model.specs.Text.{refusedAt, readFrom};
-ghost use Rattle.lines.specs.Line.{readingOf, Fit};
+ghost use Rattle.lines.specs.Line.{readingOf, ReadingFits};
 ghost use Rattle.dimacs.specs.Reply.{TextReplies, ReadsAs};
-use lines::Line;
-use lines::State;
+use lines::Outcome;
+use lines::Said;
 
 // What a call answers: 0, N, M and 0, or the refusal's number, zeros and the line.
 #[repr(C)]
@@ -17,8 +17,8 @@ pub struct TextAnswer {
 }
 
 // Refused: "N and M are then 0. The table is unchanged if no p line passed, else its first N × N bytes, with that line's N, are 0."
-fn refuse(table: &mut [u8], s: State, number: u32, line: usize) -> TextAnswer
-    requires { ⌜ Fit s (length (now table)) ⌝ }
+fn refuse(table: &mut [u8], s: Said, number: u32, line: usize) -> TextAnswer
+    requires { ⌜ ReadingFits s (length (now table)) ⌝ }
     ensures { λ r. ⌜ TextReplies (refusedAt number line (readingOf s (now (table .entry))) (now (table .entry))) (now (table .exit)) r ⌝ }
 {
     let n = s.vertices;
@@ -32,8 +32,8 @@ fn refuse(table: &mut [u8], s: State, number: u32, line: usize) -> TextAnswer
 }
 
 // The end of the text: 33 no p line, 39 M differs, both with the line count plus 1; else number 0, N, M, line 0.
-fn finish(table: &mut [u8], s: State, line: usize) -> TextAnswer
-    requires { ⌜ Fit s (length (now table)) ⌝ }
+fn finish(table: &mut [u8], s: Said, line: usize) -> TextAnswer
+    requires { ⌜ ReadingFits s (length (now table)) ⌝ }
     ensures { λ r. ⌜ TextReplies (readFrom line (readingOf s (now (table .entry))) [] (now (table .entry))) (now (table .exit)) r ⌝ }
 {
     if !s.passed {
@@ -55,7 +55,7 @@ fn finish(table: &mut [u8], s: State, line: usize) -> TextAnswer
 pub fn read_text(text: &[u8], table: &mut [u8]) -> TextAnswer
     ensures { λ r. ⌜ ReadsAs (now (text .entry)) (now (table .entry)) (now (table .exit)) r ⌝ }
 {
-    let mut s = State {
+    let mut s = Said {
         passed: false,
         vertices: 0, // no byte of the table is claimed before a p line
         stated: 0,
@@ -66,10 +66,10 @@ pub fn read_text(text: &[u8], table: &mut [u8]) -> TextAnswer
     while at < text.len() {
         let end = number::scan::find(text, at, b'\n');
         match lines::read_line(&text[at..end], table, s) {
-            Line::Bad(number) => {
+            Outcome::Bad(number) => {
                 return refuse(table, s, number, line);
             }
-            Line::Next(r) => {
+            Outcome::Next(r) => {
                 s = r;
             }
         }

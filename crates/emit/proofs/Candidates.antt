@@ -10,8 +10,8 @@ use lib.ListN.{length, getD, take, set, length-map}
 use lib.Seq.{take-suc, take-length}
 use Rattle.model.specs.Graph.{Graph, byTable, vertexAt}
 use Rattle.theory.specs.Search.{joinedAll}
-use Rattle.theory.specs.Parts.{part, Kept, HoldsVertices, Listed}
-use Rattle.theory.proofs.basics.Parts.{part-length, part-at, same-members, listed-none, listed-push, listed-pass}
+use Rattle.theory.specs.Parts.{part, Kept, HoldsVertices, Filled}
+use Rattle.theory.proofs.basics.Parts.{part-length, part-at, same-members, filled-none, filled-push, filled-pass}
 use Rattle.theory.proofs.basics.Passing.{map-at}
 use Rattle.graph.proofs.Ranks.{entry-below}
 use Rattle.emit.specs.Qualify.{joinedOf, Sifts, Sifted}
@@ -43,15 +43,15 @@ module _ {n : ℕ} {t ranks w₀ : List ℕ} {taken left : ℕ} (a : Sifts n t r
   lefts-length : length lefts ≡ left
   lefts-length = length-map (part w₀ (2 * n) left) (vertexAt (byTable n t)) ∙ part-full
 
-  pub sifted-none : Listed (3 * n) (3 * n + n) (sifted n t w₀ taken left 0) w₀ w₀ 0
+  pub sifted-none : Filled (3 * n) (3 * n + n) (sifted n t w₀ taken left 0) w₀ w₀ 0
   unfolding joinedOf
-  sifted-none = listed-none _ _ _ _ refl
+  sifted-none = filled-none _ _ _ _ refl
 
   -- the taken vertices are as they were
   pub members-vertices : {w : List ℕ} → Kept (3 * n) (3 * n + n) w₀ w → HoldsVertices n w n taken
   members-vertices kept i h = let k = a .few-taken in let e = kept .below (n + i) (omega arith) in let l = a .vertices i h in omega arith
 
-  module _ {w : List ℕ} {m j : ℕ} (s : Listed (3 * n) (3 * n + n) (sifted n t w₀ taken left j) w₀ w m) where
+  module _ {w : List ℕ} {m j : ℕ} (s : Filled (3 * n) (3 * n + n) (sifted n t w₀ taken left j) w₀ w m) where
     -- all are looked through
     pub sifted-all : m ≤ j → j ≤ left → left ≤ j → Sifted n t w₀ w taken left m
     sifted-all f b h =
@@ -97,9 +97,9 @@ module _ {n : ℕ} {t ranks w₀ : List ℕ} {taken left : ℕ} (a : Sifts n t r
 
       -- it is written where it is joined to all, and else passed over
       pub sifted-hit : m ≤ j → true ≡ joinedAll (byTable n t) vertex (part w n (n + taken - n))
-          → Listed (3 * n) (3 * n + n) (sifted n t w₀ taken left (j + 1)) w₀ (set w (3 * n + m) vertex) (m + 1)
-      sifted-hit f e = let k = a .few-left in let r = a .room in listed-push _ _ _ s vertex _ (further true e) (omega arith) (omega arith)
+          → Filled (3 * n) (3 * n + n) (sifted n t w₀ taken left (j + 1)) w₀ (set w (3 * n + m) vertex) (m + 1)
+      sifted-hit f e = let k = a .few-left in let r = a .room in filled-push _ _ _ s vertex _ (further true e) (omega arith) (omega arith)
 
       pub sifted-miss : false ≡ joinedAll (byTable n t) vertex (part w n (n + taken - n))
-          → Listed (3 * n) (3 * n + n) (sifted n t w₀ taken left (j + 1)) w₀ w m
-      sifted-miss e = listed-pass _ _ _ s _ (further false e ∙ append-nil _)
+          → Filled (3 * n) (3 * n + n) (sifted n t w₀ taken left (j + 1)) w₀ w m
+      sifted-miss e = filled-pass _ _ _ s _ (further false e ∙ append-nil _)

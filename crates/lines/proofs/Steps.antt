@@ -11,26 +11,26 @@ use borrow.Author.Tests.{ne-eqb, le-ltb}
 use Rattle.model.specs.Text.{Step, bad, next, fault, eLine, pLine, joinPair}
 use Rattle.model.specs.EdgeText.{Ends}
 use Rattle.theory.proofs.text.EdgeTextStep.{repeatedBy, joinedBy}
-use Rattle.lines.specs.Line.{readingOf, start, Fit, LineRead}
-use Rattle.lines.specs.declared.State.{State}
-use Rattle.lines.specs.declared.Line.{Line}
-use Rattle.lines.specs.declared.Line.the-variants.{Bad, Next}
+use Rattle.lines.specs.Line.{readingOf, start, ReadingFits, LineRead}
+use Rattle.lines.specs.declared.Said.{Said}
+use Rattle.lines.specs.declared.Outcome.{Outcome}
+use Rattle.lines.specs.declared.Outcome.the-variants.{Bad, Next}
 use Rattle.lines.proofs.Cells.{cell, turned}
 use Rattle.lines.proofs.Lines.{past-fault, problem-tests}
 
 -- the same promise of an equal step, and of an equal answer
-pub stepped-as : {x y : Step} {s : State} {t t' : List ℕ} {r : Line} → LineRead x s t t' r → x ≡ y → LineRead y s t t' r
+pub stepped-as : {x y : Step} {s : Said} {t t' : List ℕ} {r : Outcome} → LineRead x s t t' r → x ≡ y → LineRead y s t t' r
 stepped-as p e = record { step = p .step ∙ e; kept = p .kept }
 
-pub stepped-at : {x : Step} {s : State} {t t' : List ℕ} {r r' : Line} → LineRead x s t t' r → r ≡ r' → LineRead x s t t' r'
-stepped-at {x} {s} {t} {t'} p e = subst (λ (r : Line). LineRead x s t t' r) e p
+pub stepped-at : {x : Step} {s : Said} {t t' : List ℕ} {r r' : Outcome} → LineRead x s t t' r → r ≡ r' → LineRead x s t t' r'
+stepped-at {x} {s} {t} {t'} p e = subst (λ (r : Outcome). LineRead x s t t' r) e p
 
 -- a line at fault leaves the slice alone
-pub faulty : {k : ℕ} {wanted : Step} {s : State} {t : List ℕ} → bad k ≡ wanted → LineRead wanted s t t (Bad k)
+pub faulty : {k : ℕ} {wanted : Step} {s : Said} {t : List ℕ} → bad k ≡ wanted → LineRead wanted s t t (Bad k)
 faulty e = record { step = e; kept = refl }
 
 -- a comment changes nothing
-pub unchanged : {wanted : Step} {s : State} {t : List ℕ} → Fit s (length t) → next (readingOf s t) ≡ wanted → LineRead wanted s t t (Next s)
+pub unchanged : {wanted : Step} {s : Said} {t : List ℕ} → ReadingFits s (length t) → next (readingOf s t) ≡ wanted → LineRead wanted s t t (Next s)
 unchanged f e = record { step = e; kept = record { fit = f; rest = refl; grows = omega arith; counted = omega arith } }
 
 -- ---- an e line in form, of two vertices
@@ -40,7 +40,7 @@ pub table-byte : {n u v : ℕ} (t : List ℕ) → Ends n u v → getD (take (n *
 table-byte {n} {u} {v} t h = getD-take (n * n) t ((u - 1) * n + (v - 1)) 0 (cell h)
 
 -- both cells are set, within the table
-pub joined : {s : State} {t : List ℕ} {u v : ℕ} → Ends (s .vertices) u v → Fit s (length t) → (getD t ((u - 1) * s .vertices + (v - 1)) 0 ≡ 1 → ⊥)
+pub joined : {s : Said} {t : List ℕ} {u v : ℕ} → Ends (s .vertices) u v → ReadingFits s (length t) → (getD t ((u - 1) * s .vertices + (v - 1)) 0 ≡ 1 → ⊥)
     → fault 38 (repeatedBy (readingOf s t) u v) (next (joinedBy (readingOf s t) u v)) ≡ eLine (readingOf s t) u v →
     LineRead (eLine (readingOf s t) u v) s t (set (set t ((u - 1) * s .vertices + (v - 1)) 1) ((v - 1) * s .vertices + (u - 1)) 1)
     (Next (record { passed = true; vertices = s .vertices; stated = s .stated; edges = s .edges + 1 }))
@@ -81,7 +81,7 @@ cleared {t} {t'} {n} {m} h g k e =
     }
 
 -- a p line is the first, so that nothing was claimed before it
-pub from-start : {x : Step} {s : State} {t t' : List ℕ} {r : Line} → s .vertices ≡ 0 → LineRead x start t t' r → LineRead x s t t' r
+pub from-start : {x : Step} {s : Said} {t t' : List ℕ} {r : Outcome} → s .vertices ≡ 0 → LineRead x start t t' r → LineRead x s t t' r
 from-start {r = Bad k} e p = record { step = p .step; kept = p .kept }
 from-start {r = Next s'} e p =
     let w = p .kept in

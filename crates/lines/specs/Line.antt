@@ -5,9 +5,9 @@ use mathlib.Core.Bool.{false}
 use mathlib.Core.List.{List}
 use lib.ListN.{length, getD, take, drop}
 use Rattle.model.specs.Text.{Reading, Step, bad, next}
-use Rattle.lines.specs.declared.State.{State}
-use Rattle.lines.specs.declared.Line.{Line}
-use Rattle.lines.specs.declared.Line.the-variants.{Bad, Next}
+use Rattle.lines.specs.declared.Said.{Said}
+use Rattle.lines.specs.declared.Outcome.{Outcome}
+use Rattle.lines.specs.declared.Outcome.the-variants.{Bad, Next}
 
 -- a line's first byte
 pub record FirstByte (b : ℕ) (line : List ℕ) : Type 0 where
@@ -15,7 +15,7 @@ pub record FirstByte (b : ℕ) (line : List ℕ) : Type 0 where
   pub first : getD line 0 0 ≡ b
 
 -- the state and the first N × N bytes of the table slice, as the definition's reading
-abbrev pub readingOf : State → List ℕ → Reading
+abbrev pub readingOf : Said → List ℕ → Reading
 readingOf s t = record {
   passed = s .passed;
   vertices = s .vertices;
@@ -25,34 +25,34 @@ readingOf s t = record {
 }
 
 -- document 01's number of a faulty line, or the reading that goes on
-abbrev pub stepOf : Line → List ℕ → Step
+abbrev pub stepOf : Outcome → List ℕ → Step
 stepOf (Bad k) t = bad k
 stepOf (Next s) t = next (readingOf s t)
 
 -- the state before the first line
-abbrev pub start : State
+abbrev pub start : Said
 start = record { passed = false; vertices = 0; stated = 0; edges = 0 }
 
 -- a state that a table slice of this length has room for
-pub record Fit (s : State) (room : ℕ) : Type 0 where
+pub record ReadingFits (s : Said) (room : ℕ) : Type 0 where
   pub small : s .vertices ≤ 1024
   pub area : s .vertices * s .vertices ≤ room
   pub stated : s .stated < 1000000
   pub fresh : s .passed ≡ false → s .vertices ≡ 0
 
 -- from one state to the next: nothing past the table is written
-pub record Went (s s' : State) (before after : List ℕ) : Type 0 where
-  pub fit : Fit s' (length before)
+pub record ReadOn (s s' : Said) (before after : List ℕ) : Type 0 where
+  pub fit : ReadingFits s' (length before)
   pub rest : drop (s' .vertices * s' .vertices) after ≡ drop (s' .vertices * s' .vertices) before
   pub grows : s .vertices ≤ s' .vertices
   pub counted : s' .edges ≤ s .edges + 1
 
 -- a faulty line writes nothing
-abbrev pub Carried : State → List ℕ → List ℕ → Line → Type 0
+abbrev pub Carried : Said → List ℕ → List ℕ → Outcome → Type 0
 Carried s before after (Bad k) = after ≡ before
-Carried s before after (Next s') = Went s s' before after
+Carried s before after (Next s') = ReadOn s s' before after
 
 -- a line, or a part of it, is read as the definition's step says
-pub record LineRead (wanted : Step) (s : State) (before after : List ℕ) (r : Line) : Type 0 where
+pub record LineRead (wanted : Step) (s : Said) (before after : List ℕ) (r : Outcome) : Type 0 where
   pub step : stepOf r after ≡ wanted
   pub kept : Carried s before after r

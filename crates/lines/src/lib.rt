@@ -7,11 +7,11 @@ ghost use Prim.Native.Nat.{_+_, _<_, _^_};
 ghost use lib.ListN.{length, take, drop};
 ghost use lib.Dec.{eqb};
 ghost use Rattle.model.specs.Text.{pLine, eLine, lineStep, unspaced};
-ghost use Rattle.lines.specs.Line.{FirstByte, readingOf, start, Fit, LineRead};
+ghost use Rattle.lines.specs.Line.{FirstByte, readingOf, start, ReadingFits, LineRead};
 use number::Pair;
 
 // What the lines so far say: whether a p line passed, its N and M, and the count of e lines.
-pub struct State {
+pub struct Said {
     pub passed: bool,
     pub vertices: usize,
     pub stated: usize,
@@ -19,9 +19,9 @@ pub struct State {
 }
 
 // A line is at fault, with its number, or the reading goes on.
-pub enum Line {
+pub enum Outcome {
     Bad(u32),
-    Next(State),
+    Next(Said),
 }
 
 // Whether a line starts with these bytes, as a p line "starts with the six bytes `p edge`".
@@ -56,19 +56,19 @@ fn comment(line: &[u8]) -> bool
 }
 
 // A p line's numbers: 35 N over 1,024; 40 table under N × N.
-fn problem(table: &mut [u8], n: usize, m: usize) -> Line
+fn problem(table: &mut [u8], n: usize, m: usize) -> Outcome
     requires { ⌜ m < 1000000 ⌝ }
     ensures { λ r. ⌜ LineRead (pLine (length (now (table .entry))) n m) start (now (table .entry)) (now (table .exit)) r ⌝ }
 {
     if 1024 < n {
-        return Line::Bad(35);
+        return Outcome::Bad(35);
     }
     let area = n * n;
     if table.len() < area {
-        return Line::Bad(40);
+        return Outcome::Bad(40);
     }
     crate::table::clear(table, area);
-    Line::Next(State {
+    Outcome::Next(Said {
         passed: true,
         vertices: n,
         stated: m,
@@ -77,37 +77,37 @@ fn problem(table: &mut [u8], n: usize, m: usize) -> Line
 }
 
 // An e line's numbers: 36 U or V out of range; 37 U = V; 38 pair repeated.
-fn edge(table: &mut [u8], s: State, u: usize, v: usize) -> Line
-    requires { ⌜ Fit s (length (now table)) ⌝ }
+fn edge(table: &mut [u8], s: Said, u: usize, v: usize) -> Outcome
+    requires { ⌜ ReadingFits s (length (now table)) ⌝ }
     requires { ⌜ s .edges + 1 < 2 ^ 64 ⌝ }
     ensures { λ r. ⌜ LineRead (eLine (readingOf s (now (table .entry))) u v) s (now (table .entry)) (now (table .exit)) r ⌝ }
 {
     let n = s.vertices;
     if u == 0 {
-        return Line::Bad(36); // U is 0
+        return Outcome::Bad(36); // U is 0
     }
     let a = u - 1;
     if n <= a {
-        return Line::Bad(36); // U is over N
+        return Outcome::Bad(36); // U is over N
     }
     if v == 0 {
-        return Line::Bad(36); // V is 0
+        return Outcome::Bad(36); // V is 0
     }
     let b = v - 1;
     if n <= b {
-        return Line::Bad(36); // V is over N
+        return Outcome::Bad(36); // V is over N
     }
     if a == b {
-        return Line::Bad(37);
+        return Outcome::Bad(37);
     }
     let there = a * n + b;
     if table[there] == 1 {
-        return Line::Bad(38);
+        return Outcome::Bad(38);
     }
     let back = b * n + a;
     table[there] = 1;
     table[back] = 1;
-    Line::Next(State {
+    Outcome::Next(Said {
         passed: true,
         vertices: n,
         stated: s.stated,
@@ -116,73 +116,73 @@ fn edge(table: &mut [u8], s: State, u: usize, v: usize) -> Line
 }
 
 // A line that starts with p: 31 no space after it; 34 a second p line; 32 another fault of form; then its numbers.
-fn problem_line(line: &[u8], table: &mut [u8], s: State) -> Line
+fn problem_line(line: &[u8], table: &mut [u8], s: Said) -> Outcome
     requires { ⌜ FirstByte 112 (now line) ⌝ }
-    requires { ⌜ Fit s (length (now table)) ⌝ }
+    requires { ⌜ ReadingFits s (length (now table)) ⌝ }
     ensures { λ r. ⌜ LineRead (lineStep (length (now (table .entry))) (readingOf s (now (table .entry))) (now (line .entry))) s (now (table .entry)) (now (table .exit)) r ⌝ }
 {
     if unspaced(line) {
-        return Line::Bad(31);
+        return Outcome::Bad(31);
     }
     let second = s.passed;
     let other = !starts(line, b"p edge");
     if second {
-        return Line::Bad(34);
+        return Outcome::Bad(34);
     }
     if other {
-        return Line::Bad(32); // not the six bytes
+        return Outcome::Bad(32); // not the six bytes
     }
     if line.len() < 7 {
-        return Line::Bad(32);
+        return Outcome::Bad(32);
     }
     if line[6] != b' ' {
-        return Line::Bad(32);
+        return Outcome::Bad(32);
     }
     match number::two_numbers(&line[7..]) {
         Pair::Numbers(n, m) => problem(table, n, m),
-        Pair::NoPair => Line::Bad(32),
+        Pair::NoPair => Outcome::Bad(32),
     }
 }
 
 // A line that starts with e: 31 no space after it; 33 no p line before it; 32 another fault of form; then its numbers.
-fn edge_line(line: &[u8], table: &mut [u8], s: State) -> Line
+fn edge_line(line: &[u8], table: &mut [u8], s: Said) -> Outcome
     requires { ⌜ FirstByte 101 (now line) ⌝ }
-    requires { ⌜ Fit s (length (now table)) ⌝ }
+    requires { ⌜ ReadingFits s (length (now table)) ⌝ }
     requires { ⌜ s .edges + 1 < 2 ^ 64 ⌝ }
     ensures { λ r. ⌜ LineRead (lineStep (length (now (table .entry))) (readingOf s (now (table .entry))) (now (line .entry))) s (now (table .entry)) (now (table .exit)) r ⌝ }
 {
     if unspaced(line) {
-        return Line::Bad(31);
+        return Outcome::Bad(31);
     }
     if !s.passed {
-        return Line::Bad(33);
+        return Outcome::Bad(33);
     }
     match number::two_numbers(&line[2..]) {
         Pair::Numbers(u, v) => edge(table, s, u, v),
-        Pair::NoPair => Line::Bad(32),
+        Pair::NoPair => Outcome::Bad(32),
     }
 }
 
 // One line: 31 empty, or another first letter; then by its first letter.
-pub fn read_line(line: &[u8], table: &mut [u8], s: State) -> Line
-    requires { ⌜ Fit s (length (now table)) ⌝ }
+pub fn read_line(line: &[u8], table: &mut [u8], s: Said) -> Outcome
+    requires { ⌜ ReadingFits s (length (now table)) ⌝ }
     requires { ⌜ s .edges + 1 < 2 ^ 64 ⌝ }
     ensures { λ r. ⌜ LineRead (lineStep (length (now (table .entry))) (readingOf s (now (table .entry))) (now (line .entry))) s (now (table .entry)) (now (table .exit)) r ⌝ }
 {
     if line.len() == 0 {
-        return Line::Bad(31);
+        return Outcome::Bad(31);
     }
     let first = line[0];
     match first {
         b'c' => {
             if comment(line) {
-                Line::Next(s)
+                Outcome::Next(s)
             } else {
-                Line::Bad(31)
+                Outcome::Bad(31)
             }
         }
         b'p' => problem_line(line, table, s),
         b'e' => edge_line(line, table, s),
-        _ => Line::Bad(31),
+        _ => Outcome::Bad(31),
     }
 }

@@ -27,7 +27,7 @@ use Rattle.theory.proofs.program.Printed.{held-add}
 use Rattle.theory.proofs.program.Program.{all-groups, pages-listed, pages-print}
 use Rattle.page.specs.declared.PageAnswer.{PageAnswer}
 use Rattle.page.specs.Answer.{PageReplies}
-use Rattle.listing.specs.declared.Turn.{Turn}
+use Rattle.listing.specs.declared.PageDone.{PageDone}
 use Rattle.listing.specs.declared.totals.Totals.{Totals}
 use Rattle.listing.specs.List.{turnReply, Turned, Paged, Ran}
 
@@ -153,7 +153,7 @@ module _ {n : ℕ} {t : List ℕ} {s : Settings} (valid : refuseTable n t 0 ≡ 
 
   -- ---- the same by what a turn leaves
 
-  module _ {before left after : List ℕ} {r : Turn} (turned : Turned n t s p out work before left after r) where
+  module _ {before left after : List ℕ} {r : PageDone} (turned : Turned n t s p out work before left after r) where
     module _ {g' k' : ℕ} (gs : g' ≡ held (g + r .groups)) (ks : k' ≡ held (k + r .steps)) where
       same-groups : held (g + reply .groups) ≡ g'
       same-groups = ap (λ (x : ℕ). held (g + x)) (sym (turned .groups)) ∙ sym gs

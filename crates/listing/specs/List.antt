@@ -15,7 +15,7 @@ use Rattle.model.specs.Demand.{leftAt, allSteps, allGroups, SomeFinished}
 use Rattle.model.specs.Program.{groupLines, held}
 use Rattle.theory.specs.Replies.{Chain}
 use Rattle.theory.specs.Printed.{printed, printedPages}
-use Rattle.listing.specs.declared.Turn.{Turn}
+use Rattle.listing.specs.declared.PageDone.{PageDone}
 use Rattle.listing.specs.declared.totals.Totals.{Totals}
 use Rattle.print.specs.Put.{Puts}
 
@@ -24,7 +24,7 @@ abbrev pub turnReply : ℕ → List ℕ → Settings → Position → List ℕ �
 turnReply n t s p out work = pageCall n t s 4294967295 p out work
 
 -- a page from p leaves its position, its numbers, and its used entries printed from the buffer's start on
-pub record Turned (n : ℕ) (t : List ℕ) (s : Settings) (p out : List ℕ) (work : ℕ) (bytes left printed' : List ℕ) (r : Turn) : Type 0 where
+pub record Turned (n : ℕ) (t : List ℕ) (s : Settings) (p out : List ℕ) (work : ℕ) (bytes left printed' : List ℕ) (r : PageDone) : Type 0 where
   pub position : left ≡ turnReply n t s p out work .position
   pub finished : r .finished ≡ eqb (turnReply n t s p out work .stop) stoppedFinished
   pub groups : r .groups ≡ turnReply n t s p out work .groups

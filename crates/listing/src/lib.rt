@@ -19,7 +19,7 @@ pub fn write_first(bytes: &[u8], k: usize)
 }
 
 // What a page brought: whether it said Finished, its groups and steps, and how many bytes are printed of it.
-pub struct Turn {
+pub struct PageDone {
     pub finished: bool,
     pub groups: u32,
     pub steps: u32,
@@ -35,7 +35,7 @@ fn one_page(
     bytes: &mut [u8],
     n: usize,
     s: Settings,
-) -> Turn
+) -> PageDone
     requires { ⌜ 6 * length (now output) ≤ length (now bytes) ⌝ }
     ensures { λ r. ⌜
         Turned n (now (table .entry)) (settingsOf s) (now (position .entry)) (now (output .entry)) (length (now (work .entry)))
@@ -54,7 +54,7 @@ fn one_page(
         4294967295,
     );
     let printed = print_entries(&output[..a.used], bytes);
-    Turn {
+    PageDone {
         finished: a.stop == 1,
         groups: a.groups,
         steps: a.steps,

@@ -1,12 +1,11 @@
 -- The refusals of a page call in their order: each group of tests decides where it finds a fault, and leaves it to the later ones where it finds none;
 -- and what a call has that passes them.
 -- Assumes nothing.
-use Prim.Native.Nat.{ℕ, suc, _*_, _≤_, _<_}
-use mathlib.Core.Path.{_≡_, refl, sym, _∙_}
-use mathlib.Core.Bool.{Bool, true, false, not, _||_}
+use Prim.Native.Nat.{ℕ, _*_, _≤_, _<_}
+use mathlib.Core.Path.{_≡_, sym, _∙_}
+use mathlib.Core.Bool.{false, not}
 use mathlib.Core.List.{List}
-use mathlib.Core.Logic.{_≢_, _⊎_, inl, inr}
-use native.Mathlib.Omega.{arith}
+use mathlib.Core.Logic.{_≢_}
 use lib.ListN.{length}
 use lib.Dec.{ltb, eqb}
 use borrow.Author.Tests.{eqb-true, eq-eqb, ne-eqb, lt-ltb, le-ltb, ltb-false, not-false}
@@ -14,7 +13,7 @@ use Rattle.model.specs.Graph.{byTable}
 use Rattle.model.specs.Groups.{Settings}
 use Rattle.model.specs.Walk.{Position}
 use Rattle.model.specs.Listing.{rules}
-use Rattle.model.specs.Calls.{refuse, over, gap, looped, oneWay, refuseTable, refuseSettings, refuseLengths, refusePosition, refusePage}
+use Rattle.model.specs.Calls.{refuse, over, gap, refuseTable, refuseSettings, refuseLengths, refusePosition, refusePage}
 use Rattle.theory.proofs.basics.Gates.{Gate, gate-one, gate-then, open-gate, shut, gate-passed}
 use Rattle.theory.proofs.calls.PageAccepted.{refuse-pass}
 use Rattle.graph.specs.Table.{TableFits}

@@ -27,9 +27,9 @@ use Rattle.graph.proofs.Ranks.{table-size}
 use Rattle.isolation.specs.declared.Settings.{Settings}
 use Rattle.isolation.specs.declared.Tally.{Tally}
 use Rattle.isolation.specs.Numbers.{settingsOf, Small, isolatedOf, beatenOf, TallyOf}
-use Rattle.theory.specs.Parts.{part, Listed}
+use Rattle.theory.specs.Parts.{part, Filled}
 use Rattle.larger.specs.Search.{Lent, Posed, Tested}
-use Rattle.query.specs.Query.{HoldsMembers, pairwise, Tallies, Ready, Decided}
+use Rattle.query.specs.Query.{HoldsMembers, pairwise, Tallies, QueryReady, Decided}
 use Rattle.theory.proofs.basics.Parts.{part-length, part-at}
 use Rattle.query.proofs.Members.{clique-test}
 use Rattle.isolation.proofs.Refusals.{QueryAccepted, query-accepted}
@@ -55,7 +55,7 @@ both-fit G S =
 
 -- ---- one set query that is accepted
 
-module _ {n : ℕ} {t ranks bs w₀ : List ℕ} {s : Settings} (ready : Ready n t ranks bs w₀ s) where
+module _ {n : ℕ} {t ranks bs w₀ : List ℕ} {s : Settings} (ready : QueryReady n t ranks bs w₀ s) where
   abbrev graph : Graph
   graph = byTable n t
 
@@ -75,7 +75,7 @@ module _ {n : ℕ} {t ranks bs w₀ : List ℕ} {s : Settings} (ready : Ready n 
   work-fits = record { small = accepted .table .fits .small; parts = let r = accepted .room in omega arith }
 
   -- after the members were written
-  module _ {w₁ : List ℕ} {k : ℕ} (wrote : Listed n (n + n) (passing n (is 1 bs)) w₀ w₁ k × (k ≤ n)) where
+  module _ {w₁ : List ℕ} {k : ℕ} (wrote : Filled n (n + n) (passing n (is 1 bs)) w₀ w₁ k × (k ≤ n)) where
     long : 8 * n ≤ length w₁
     long = let r = accepted .room in omega arith
 
@@ -157,7 +157,7 @@ module _ {n : ℕ} {t ranks bs w₀ : List ℕ} {s : Settings} (ready : Ready n 
           ∙ ap (λ (b : Bool). b && not (beatenOf graph s y (passing (graph .size) (common graph members)))) e))
 
       module _ {w₂ : List ℕ} {m : ℕ}
-          (found : Listed (3 * n) (3 * n + n) (passing n (λ v. joinedAll graph v (part w₁ n k))) w₁ w₂ m × (m ≤ n)) where
+          (found : Filled (3 * n) (3 * n + n) (passing n (λ v. joinedAll graph v (part w₁ n k))) w₁ w₂ m × (m ≤ n)) where
         candidates-are : part w₂ (3 * n) m ≡ passing (graph .size) (common graph members)
         candidates-are =
             found .0 .listed

@@ -34,7 +34,7 @@ abbrev pub Tallies : ℕ → List ℕ → List ℕ → Tally → Type 0
 Tallies n ranks us y = (G : Graph) → G .size ≡ n → HoldsDegrees n G ranks → (S : VertexSet) → Members G S us → TallyOf G S y
 
 -- the call is accepted, and the ranks hold the degrees
-pub record Ready (n : ℕ) (t ranks bs w : List ℕ) (s : Settings) : Type 0 where
+pub record QueryReady (n : ℕ) (t ranks bs w : List ℕ) (s : Settings) : Type 0 where
   pub accepted : refuseQuery n t (settingsOf s) bs (length w) ≡ 0
   pub ranks-fit : RanksFit n ranks
   pub degrees : HoldsDegrees n (byTable n t) ranks

@@ -10,8 +10,8 @@ ghost use Rattle.model.specs.Calls.{refuseQuery};
 ghost use Rattle.graph.specs.Table.{TableFits};
 ghost use Rattle.graph.specs.Ranks.{RanksFit};
 ghost use Rattle.isolation.specs.Numbers.{settingsOf};
-ghost use Rattle.theory.specs.Parts.{part, Listed};
-ghost use Rattle.query.specs.Query.{HoldsMembers, pairwise, Tallies, Ready, Decided, Answers};
+ghost use Rattle.theory.specs.Parts.{part, Filled};
+ghost use Rattle.query.specs.Query.{HoldsMembers, pairwise, Tallies, QueryReady, Decided, Answers};
 use isolation::Settings;
 use isolation::Tally;
 use isolation::isolated_by;
@@ -30,7 +30,7 @@ pub struct SetAnswer {
 // Writes the vertices of n whose byte in set is 1 into part 1 of work, lowest first, and nothing else of it, and gives how many they are. Reads set.
 fn members_of(set: &[u8], n: usize, work: &mut [u16]) -> usize
     requires { ⌜ RanksFit n (now work) × (length (now set) ≡ n) ⌝ }
-    ensures { λ k. ⌜ Listed n (n + n) (passing n (is 1 (now (set .entry)))) (now (work .entry)) (now (work .exit)) k × (k ≤ n) ⌝ }
+    ensures { λ k. ⌜ Filled n (n + n) (passing n (is 1 (now (set .entry)))) (now (work .entry)) (now (work .exit)) k × (k ≤ n) ⌝ }
 {
     let mut k: usize = 0;
     let mut v = 0;
@@ -86,7 +86,7 @@ fn tally_of(ranks: &[u16], n: usize, work: &[u16], k: usize) -> Tally
 // many they are; with no loops in the graph they are the members' common neighbours. Reads the table at the members.
 fn common_neighbours(table: &[u8], n: usize, work: &mut [u16], k: usize) -> usize
     requires { ⌜ TableFits n (now table) × HoldsMembers n (now work) k ⌝ }
-    ensures { λ m. ⌜ Listed (3 * n) (3 * n + n) (passing n (λ v. joinedAll (byTable n (now (table .entry))) v (part (now (work .entry)) n k))) (now (work .entry)) (now (work .exit)) m × (m ≤ n) ⌝ }
+    ensures { λ m. ⌜ Filled (3 * n) (3 * n + n) (passing n (λ v. joinedAll (byTable n (now (table .entry))) v (part (now (work .entry)) n k))) (now (work .entry)) (now (work .exit)) m × (m ≤ n) ⌝ }
 {
     let end = n + k;
     let mut m: usize = 0;
@@ -137,7 +137,7 @@ fn set_qualifies(
     n: usize,
     s: Settings,
 ) -> bool
-    requires { ⌜ Ready n (now table) (now ranks) (now set) (now work) s ⌝ }
+    requires { ⌜ QueryReady n (now table) (now ranks) (now set) (now work) s ⌝ }
     ensures { λ r. ⌜ Decided n (now (table .entry)) (now (set .entry)) (now (work .entry)) (now (work .exit)) (settingsOf s) r ⌝ }
 {
     let k = members_of(set, n, work);

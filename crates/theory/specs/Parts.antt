@@ -20,6 +20,6 @@ abbrev pub HoldsVertices : ℕ → List ℕ → ℕ → ℕ → Type 0
 HoldsVertices n w a k = (i : ℕ) → i < k → getD w (a + i) 0 < n
 
 -- a loop has written the k entries of the list l from entry a on, and every entry outside a to b - 1 is as it was
-pub record Listed (a b : ℕ) (l before after : List ℕ) (k : ℕ) : Type 0 where
+pub record Filled (a b : ℕ) (l before after : List ℕ) (k : ℕ) : Type 0 where
   pub listed : part after a k ≡ l
   pub kept : Kept a b before after

@@ -142,13 +142,13 @@ module _ (G : Graph) {d x : ℕ} {p q : Position} (low : d < G .size) (clear : (
       (trichotomy (t .higher) d)
 
   -- a taken rank of p that is not adjacent to d
-  abbrev Apart : Type 0
-  Apart = (r : ℕ) × (r < d) × (getD p r 0 ≡ 1) × (adjacent G r d ≡ false)
+  abbrev Missed : Type 0
+  Missed = (r : ℕ) × (r < d) × (getD p r 0 ≡ 1) × (adjacent G r d ≡ false)
 
   abbrev missed : ℕ → Bool
   missed j = not (G .joined (getD (takenList G p) j 0) (vertexAt G d))
 
-  some-apart : Test (any (length (takenRanks G p)) missed) Apart
+  some-apart : Test (any (length (takenRanks G p)) missed) Missed
   unfolding adjacent
   some-apart =
       test-map (test-any (length (takenRanks G p)) missed (λ j. test-fails {a = G .joined (getD (takenList G p) j 0) (vertexAt G d)}))
@@ -168,7 +168,7 @@ module _ (G : Graph) {d x : ℕ} {p q : Position} (low : d < G .size) (clear : (
   pub apart-taken : x ≡ 1 → apart G q ≡ (apart G p || any (length (takenRanks G p)) (λ j. not (G .joined (getD (takenList G p) j 0) (vertexAt G d))))
   apart-taken e = same-test (apart-pairs G q) (test-map (test-or (apart-pairs G p) some-apart) there back)
     where
-      there : Pair G p ⊎ Apart → Pair G q
+      there : Pair G p ⊎ Missed → Pair G q
       there (inl t) = pair-stays t
       there (inr t) =
           record {
@@ -181,7 +181,7 @@ module _ (G : Graph) {d x : ℕ} {p q : Position} (low : d < G .size) (clear : (
             not-adjacent = t .3;
           }
 
-      back : Pair G q → Pair G p ⊎ Apart
+      back : Pair G q → Pair G p ⊎ Missed
       back t =
           let o = t .ordered in
           ⊎-elim inl

@@ -14,7 +14,7 @@ use Rattle.model.specs.Walk.{Position}
 use Rattle.model.specs.Listing.{adjacent, pivot, apart, takenList}
 use Rattle.theory.proofs.basics.Tests.{any-same, last-or-below, lt-or-ge, trichotomy}
 use Rattle.theory.proofs.basics.Parts.{part-push, part-before, part-after, part-below, kept-none}
-use Rattle.theory.specs.Parts.{part, Listed}
+use Rattle.theory.specs.Parts.{part, Filled}
 use Rattle.graph.proofs.Ranks.{table-size, entry-below}
 use Rattle.graph.specs.Ranks.{HoldsRanks}
 use Rattle.walk.specs.State.{takenRanks, leftRanks, degreesOf, Stands, StandsForOne}
@@ -178,7 +178,7 @@ module _ {n : ℕ} {t ranks : List ℕ} (R : HoldsRanks n t ranks) {w : List ℕ
         kept = kept-none (2 * byTable n t .size) (3 * byTable n t .size) w;
       }
 
-  pub left-found : s .taken ≡ 0 → {w₁ : List ℕ} {m i : ℕ} → i ≡ s .decided → m ≤ i → Listed (2 * n) (3 * n) (passing i (adjacent (byTable n t) (s .decided))) w w₁ m
+  pub left-found : s .taken ≡ 0 → {w₁ : List ℕ} {m i : ℕ} → i ≡ s .decided → m ≤ i → Filled (2 * n) (3 * n) (passing i (adjacent (byTable n t) (s .decided))) w w₁ m
       → LeftOnceTaken (byTable n t) w s w₁ m
   unfolding byTable onVertices
   left-found none {w₁} {m} e few L =

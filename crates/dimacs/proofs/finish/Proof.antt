@@ -9,17 +9,11 @@ use Rattle.dimacs.proofs.finish.Tie as tie
 refuse-requires : tie.Need-refuse-requires
 refuse-requires c κs = c .before .before .before .before .pre
 
-same-length : tie.Need-same-length
-same-length c = search needs
-
 returns : tie.Need-returns
 returns c = replies-as (c .before .before .refuse .ensures) (end-33 _ _ _ (not-true _ (c .before .before .before .before .if1 .taken)))
 
 refuse-requires-2 : tie.Need-refuse-requires-2
 refuse-requires-2 c κs = c .before .before .before .before .before .before .pre
-
-same-length-2 : tie.Need-same-length-2
-same-length-2 c = search needs
 
 returns-2 : tie.Need-returns-2
 returns-2 c =
@@ -42,10 +36,10 @@ finish-spec =
     tie.close
     (tie.spec
     refuse-requires
-    same-length
+    (λ c. search needs)
     returns
     refuse-requires-2
-    same-length-2
+    (λ c. search needs)
     returns-2
     cast-t9
     cast-t10

@@ -5,7 +5,7 @@ use mathlib.Core.Path.{sym, subst, _∙_}
 use native.Mathlib.Omega.{arith}
 use lib.ListN.{length}
 use borrow.Author.Needs.{needs}
-use Rattle.lines.specs.Line.{Fit}
+use Rattle.lines.specs.Line.{ReadingFits}
 use Rattle.lines.proofs.Steps.{stepped-at}
 use Rattle.dimacs.proofs.LineByLine.{SoFar, so-fit, so-none, so-ended, so-faulty, so-next}
 use Rattle.dimacs.proofs.read_text.Statement.{statement}
@@ -20,12 +20,6 @@ abbrev μ-loop : tie.MeasureT-loop
 loop-holds : tie.Need-loop-holds Inv-loop μ-loop
 loop-holds c = so-none _ _
 
-find-requires : tie.Need-find-requires Inv-loop μ-loop
-find-requires c κs = search needs
-
-sub-read-line : tie.Need-sub-read-line Inv-loop μ-loop
-sub-read-line c = search needs
-
 part-read-line-start : tie.Need-part-read-line-start Inv-loop μ-loop
 part-read-line-start c = c .find .ensures .after
 
@@ -37,14 +31,11 @@ read-line-requires c κs =
     let l = c .before .before .before .before .loop in
     (so-fit (l .inv), omega (arith, l .inv .counted, l .inv .lines, c .before .before .before .loop-test .taken))
 
-enum-known-number : tie.Need-enum-known-number Inv-loop μ-loop
-enum-known-number c = search needs
-
 refuse-requires : tie.Need-refuse-requires Inv-loop μ-loop
 refuse-requires c κs =
     let r = c .before .before .before .before .before .before in
     let l = r .before .before .before .before .before .loop in
-    subst (λ (n : ℕ). Fit (l .s) n) (sym (r .read-line .kept .1 .0)) (so-fit (l .inv))
+    subst (λ (n : ℕ). ReadingFits (l .s) n) (sym (r .read-line .kept .1 .0)) (so-fit (l .inv))
 
 same-length : tie.Need-same-length Inv-loop μ-loop
 same-length c =
@@ -59,9 +50,6 @@ returns c =
     let l = e .before .before .loop in
     so-faulty (l .inv) (omega (arith, e .before .loop-test .taken)) (e .find .ensures)
     (stepped-at (r .read-line .ensures) (m .number .given .1)) (c .before .before .refuse .ensures)
-
-enum-known-r : tie.Need-enum-known-r Inv-loop μ-loop
-enum-known-r c = search needs
 
 add-at : tie.Need-add-at Inv-loop μ-loop
 add-at c = omega (arith, c .before .before .before .before .before .before .before .before .find .ensures .within)
@@ -102,16 +90,16 @@ read-text-spec =
     Inv-loop
     μ-loop
     loop-holds
-    find-requires
-    sub-read-line
+    (λ c κs. search needs)
+    (λ c. search needs)
     part-read-line-start
     part-read-line-end
     read-line-requires
-    enum-known-number
+    (λ c. search needs)
     refuse-requires
     same-length
     returns
-    enum-known-r
+    (λ c. search needs)
     add-at
     add-line
     loop-less

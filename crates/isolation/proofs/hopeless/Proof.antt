@@ -6,23 +6,11 @@ use borrow.Author.Needs.{needs}
 use Rattle.isolation.proofs.hopeless.Statement.{statement}
 use Rattle.isolation.proofs.hopeless.Tie as tie
 
-add-all : tie.Need-add-all
-add-all c = search needs
-
-less-requires : tie.Need-less-requires
-less-requires c κs = search needs
-
 returns : tie.Need-returns
 returns c = hopeless-min _ _ _ _ _ _ (c .if1 .taken)
 
 mul-less : tie.Need-mul-less
 mul-less c = omega (arith, product-small (c .before .before .before .before .before .before .before .args .t .members) (c .before .before .before .before .before .less .result) (omega arith) (omega arith))
-
-less-requires-2 : tie.Need-less-requires-2
-less-requires-2 c κs = search needs
-
-within-requires : tie.Need-within-requires
-within-requires c κs = search needs
 
 returns-2 : tie.Need-returns-2
 returns-2 c =
@@ -30,12 +18,6 @@ returns-2 c =
     let others = avg .before .before .before .before in
     hopeless-avg _ _ _ _ _ _ (avg .if2 .taken) (others .less .ensures)
     (c .before .less2 .ensures) (c .within .ensures)
-
-less-requires-3 : tie.Need-less-requires-3
-less-requires-3 c κs = search needs
-
-within-requires-2 : tie.Need-within-requires-2
-within-requires-2 c κs = search needs
 
 returns-3 : tie.Need-returns-3
 returns-3 c =
@@ -49,13 +31,13 @@ pub hopeless-spec : {M : Type 1} → statement M
 hopeless-spec =
     tie.close
     (tie.spec
-    add-all
-    less-requires
+    (λ c. search needs)
+    (λ c κs. search needs)
     returns
     mul-less
-    less-requires-2
-    within-requires
+    (λ c κs. search needs)
+    (λ c κs. search needs)
     returns-2
-    less-requires-3
-    within-requires-2
+    (λ c κs. search needs)
+    (λ c κs. search needs)
     returns-3)

@@ -6,15 +6,6 @@ use borrow.Author.Needs.{needs}
 use Rattle.isolation.proofs.isolated_by.Statement.{statement}
 use Rattle.isolation.proofs.isolated_by.Tie as tie
 
-less-requires : tie.Need-less-requires
-less-requires c κs = search needs
-
-less-requires-2 : tie.Need-less-requires-2
-less-requires-2 c κs = search needs
-
-within-requires : tie.Need-within-requires
-within-requires c κs = search needs
-
 returns : tie.Need-returns
 returns c =
     let min = c .before .before in
@@ -25,24 +16,12 @@ returns c =
 mul-less : tie.Need-mul-less
 mul-less c = omega (arith, product-small (c .before .before .before .before .before .before .args .t .members) (c .before .before .before .before .before .less .result) (omega arith) (omega arith))
 
-less-requires-3 : tie.Need-less-requires-3
-less-requires-3 c κs = search needs
-
-within-requires-2 : tie.Need-within-requires-2
-within-requires-2 c κs = search needs
-
 returns-2 : tie.Need-returns-2
 returns-2 c =
     let avg = c .before .before .before in
     let others = avg .before .before .before .before in
     isolated-avg _ _ _ _ _ _ (avg .if2 .taken) (others .less .ensures)
     (c .before .less3 .ensures) (c .within2 .ensures)
-
-less-requires-4 : tie.Need-less-requires-4
-less-requires-4 c κs = search needs
-
-within-requires-3 : tie.Need-within-requires-3
-within-requires-3 c κs = search needs
 
 returns-3 : tie.Need-returns-3
 returns-3 c =
@@ -56,14 +35,14 @@ pub isolated-by-spec : {M : Type 1} → statement M
 isolated-by-spec =
     tie.close
     (tie.spec
-    less-requires
-    less-requires-2
-    within-requires
+    (λ c κs. search needs)
+    (λ c κs. search needs)
+    (λ c κs. search needs)
     returns
     mul-less
-    less-requires-3
-    within-requires-2
+    (λ c κs. search needs)
+    (λ c κs. search needs)
     returns-2
-    less-requires-4
-    within-requires-3
+    (λ c κs. search needs)
+    (λ c κs. search needs)
     returns-3)

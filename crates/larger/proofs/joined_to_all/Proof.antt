@@ -25,12 +25,6 @@ loop-holds c =
     let b = c .before .before in
     (omega arith, omega arith, all-none _ _ _ _ _ (b .pre .2) (b .pre .3))
 
-mul-u : tie.Need-mul-u Inv-loop μ-loop
-mul-u c = search needs
-
-shared-slice-read-u : tie.Need-shared-slice-read-u Inv-loop μ-loop
-shared-slice-read-u c = search needs
-
 cast-u : tie.Need-cast-u Inv-loop μ-loop
 cast-u c = omega (arith, c .shared-slice-known3 .given (c .before .before .loop .i))
 
@@ -47,12 +41,6 @@ returns c =
     let b = c .before .before .before .before .before .before .before in
     let l = c .before .before .before .before .loop in
     sym (all-apart _ _ _ _ _ (b .pre .2) (b .pre .3) (l .i) (l .inv .0) (omega arith) (sym (c .before .joined .ensures) ∙ not-true _ (c .if1 .taken)))
-
-add-i : tie.Need-add-i Inv-loop μ-loop
-add-i c = search needs
-
-loop-less : tie.Need-loop-less Inv-loop μ-loop
-loop-less c = search needs
 
 loop-again : tie.Need-loop-again Inv-loop μ-loop
 loop-again c =
@@ -76,12 +64,12 @@ joined-to-all-spec =
     Inv-loop
     μ-loop
     loop-holds
-    mul-u
-    shared-slice-read-u
+    (λ c. search needs)
+    (λ c. search needs)
     cast-u
     joined-requires
     returns
-    add-i
-    loop-less
+    (λ c. search needs)
+    (λ c. search needs)
     loop-again
     returns-2)

@@ -55,9 +55,6 @@ returns c =
     let g = c .before .args in
     faulty (at-fault _ (edge-tests _ _ _) (out-test (g .s .vertices) (g .u) (g .v) .1 (inl (omega (arith, c .if1 .taken)))))
 
-sub-a : tie.Need-sub-a
-sub-a c = search needs
-
 returns-2 : tie.Need-returns-2
 returns-2 c =
     let g = c .before .before .args in
@@ -67,9 +64,6 @@ returns-3 : tie.Need-returns-3
 returns-3 c =
     let g = c .before .before .before .args in
     faulty (at-fault _ (edge-tests _ _ _) (out-test (g .s .vertices) (g .u) (g .v) .1 (inr (inr (inl (omega (arith, c .if3 .taken)))))))
-
-sub-b : tie.Need-sub-b
-sub-b c = search needs
 
 returns-4 : tie.Need-returns-4
 returns-4 c =
@@ -124,10 +118,10 @@ edge-spec =
     tie.close
     (tie.spec
     returns
-    sub-a
+    (λ c. search needs)
     returns-2
     returns-3
-    sub-b
+    (λ c. search needs)
     returns-4
     returns-5
     mul-there

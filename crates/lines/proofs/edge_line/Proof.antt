@@ -27,9 +27,6 @@ goes c =
     let u = spaced (c .before .before) in
     edge-fields _ first u ∙ past-fault _ (past-fault _ (line-edge _ _ _ first) u) (c .if2 .left)
 
-unspaced-requires : tie.Need-unspaced-requires
-unspaced-requires c κs = tt
-
 returns : tie.Need-returns
 returns c =
     faulty (at-fault _ (line-edge _ _ _ (c .before .before .before .before .pre .0)) (sym (c .before .unspaced .ensures) ∙ c .if1 .taken))
@@ -45,23 +42,8 @@ sub-two-numbers c = spaced-long (c .before .before .before .before .before .befo
 part-two-numbers-start : tie.Need-part-two-numbers-start
 part-two-numbers-start c = spaced-long (c .before .before .before .before .before .before .args .line .now) (spaced (c .before .before))
 
-part-two-numbers-end : tie.Need-part-two-numbers-end
-part-two-numbers-end c = search needs
-
-two-numbers-requires : tie.Need-two-numbers-requires
-two-numbers-requires c κs = tt
-
-enum-known-u : tie.Need-enum-known-u
-enum-known-u c = search needs
-
 edge-requires : tie.Need-edge-requires
 edge-requires c κs = c .before .before .before .before .before .before .before .before .before .before .before .before .pre .1
-
-enum-told : tie.Need-enum-told
-enum-told c = search needs
-
-same-length : tie.Need-same-length
-same-length c = search needs
 
 returns-3 : tie.Need-returns-3
 returns-3 c =
@@ -75,16 +57,16 @@ pub edge-line-spec : {M : Type 1} → statement M
 edge-line-spec =
     tie.close
     (tie.spec
-    unspaced-requires
+    (λ c κs. tt)
     returns
     returns-2
     sub-two-numbers
     part-two-numbers-start
-    part-two-numbers-end
-    two-numbers-requires
-    enum-known-u
+    (λ c. search needs)
+    (λ c κs. tt)
+    (λ c. search needs)
     edge-requires
-    enum-told
-    same-length
+    (λ c. search needs)
+    (λ c. search needs)
     returns-3
     returns-4)

@@ -39,9 +39,6 @@ numbers c =
     let b = c .before .before in
     problem-fields _ _ (begins (b .before)) (b .if4 .left) (c .if5 .left) ∙ goes (b .before .before)
 
-unspaced-requires : tie.Need-unspaced-requires
-unspaced-requires c κs = tt
-
 returns : tie.Need-returns
 returns c =
     faulty (at-fault _ (line-problem _ _ _ (c .before .before .before .before .pre .0)) (sym (c .before .unspaced .ensures) ∙ c .if1 .taken))
@@ -50,12 +47,6 @@ returns-2 : tie.Need-returns-2
 returns-2 c =
     let e = c .before .before .before in
     faulty (at-fault _ (past-fault _ (line-problem _ _ _ (e .before .before .before .before .pre .0)) (spaced e)) (c .if2 .taken))
-
-slice-aggregate-starts : tie.Need-slice-aggregate-starts
-slice-aggregate-starts c = search needs
-
-starts-requires : tie.Need-starts-requires
-starts-requires c κs = tt
 
 returns-3 : tie.Need-returns-3
 returns-3 c =
@@ -67,39 +58,15 @@ returns-3 c =
 returns-4 : tie.Need-returns-4
 returns-4 c = faulty (problem-bare _ _ (begins (c .before)) (c .if4 .taken) ∙ goes (c .before .before))
 
-shared-slice-read-if5 : tie.Need-shared-slice-read-if5
-shared-slice-read-if5 c = search needs
-
 returns-5 : tie.Need-returns-5
 returns-5 c =
     let b = c .before .before in
     faulty (problem-unspaced _ _ (begins (b .before)) (b .if4 .left) (c .if5 .taken) ∙ goes (b .before .before))
 
-sub-two-numbers : tie.Need-sub-two-numbers
-sub-two-numbers c = search needs
-
-part-two-numbers-start : tie.Need-part-two-numbers-start
-part-two-numbers-start c = search needs
-
-part-two-numbers-end : tie.Need-part-two-numbers-end
-part-two-numbers-end c = search needs
-
-two-numbers-requires : tie.Need-two-numbers-requires
-two-numbers-requires c κs = tt
-
-enum-known-n : tie.Need-enum-known-n
-enum-known-n c = search needs
-
 problem-requires : tie.Need-problem-requires
 problem-requires c κs =
     let m = c .before .before in
     pair-as (m .n .given .1) (m .before .before .two-numbers .ensures) .small .1
-
-enum-told : tie.Need-enum-told
-enum-told c = search needs
-
-same-length : tie.Need-same-length
-same-length c = search needs
 
 returns-6 : tie.Need-returns-6
 returns-6 c =
@@ -116,22 +83,22 @@ pub problem-line-spec : {M : Type 1} → statement M
 problem-line-spec =
     tie.close
     (tie.spec
-    unspaced-requires
+    (λ c κs. tt)
     returns
-    slice-aggregate-starts
-    starts-requires
+    (λ c. search needs)
+    (λ c κs. tt)
     returns-2
     returns-3
     returns-4
-    shared-slice-read-if5
+    (λ c. search needs)
     returns-5
-    sub-two-numbers
-    part-two-numbers-start
-    part-two-numbers-end
-    two-numbers-requires
-    enum-known-n
+    (λ c. search needs)
+    (λ c. search needs)
+    (λ c. search needs)
+    (λ c κs. tt)
+    (λ c. search needs)
     problem-requires
-    enum-told
-    same-length
+    (λ c. search needs)
+    (λ c. search needs)
     returns-6
     returns-7)

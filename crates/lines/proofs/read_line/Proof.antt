@@ -18,12 +18,6 @@ letter c e = record { some = omega arith; first = e }
 returns : tie.Need-returns
 returns c = faulty (line-empty _ _ _ (c .if1 .taken))
 
-shared-slice-read-first : tie.Need-shared-slice-read-first
-shared-slice-read-first c = search needs
-
-comment-requires : tie.Need-comment-requires
-comment-requires c κs = tt
-
 problem-line-requires : tie.Need-problem-line-requires
 problem-line-requires c κs =
     let e = c .before in
@@ -45,18 +39,6 @@ returns-3 c =
     let e = c .before .before in
     faulty (at-fault _ (line-comment _ _ _ (letter (e .before) (e .match .keys1))) (not-false _ (sym (c .before .comment .ensures) ∙ c .if2 .left)))
 
-same-length : tie.Need-same-length
-same-length c = search needs
-
-returns-4 : tie.Need-returns-4
-returns-4 c = search needs
-
-same-length-2 : tie.Need-same-length-2
-same-length-2 c = search needs
-
-returns-5 : tie.Need-returns-5
-returns-5 c = search needs
-
 returns-6 : tie.Need-returns-6
 returns-6 c =
     let m = c .match .rest in
@@ -67,14 +49,14 @@ read-line-spec =
     tie.close
     (tie.spec
     returns
-    shared-slice-read-first
-    comment-requires
+    (λ c. search needs)
+    (λ c κs. tt)
     problem-line-requires
     edge-line-requires
     returns-2
     returns-3
-    same-length
-    returns-4
-    same-length-2
-    returns-5
+    (λ c. search needs)
+    (λ c. search needs)
+    (λ c. search needs)
+    (λ c. search needs)
     returns-6)

@@ -27,29 +27,8 @@ abbrev μ-loop : tie.MeasureT-loop
 loop-holds : tie.Need-loop-holds Inv-loop μ-loop
 loop-holds c = (paged-none (c .before .before .before .before .before .pre .start), refl, refl, refl, refl)
 
-one-page-requires : tie.Need-one-page-requires Inv-loop μ-loop
-one-page-requires c κs = search needs
-
 write-first-requires : tie.Need-write-first-requires Inv-loop μ-loop
 write-first-requires c κs = puts-within (c .before .before .before .before .before .before .before .before .before .one-page .ensures .puts)
-
-held-add-requires : tie.Need-held-add-requires Inv-loop μ-loop
-held-add-requires c κs = search needs
-
-held-add-requires-2 : tie.Need-held-add-requires-2 Inv-loop μ-loop
-held-add-requires-2 c κs = search needs
-
-same-length : tie.Need-same-length Inv-loop μ-loop
-same-length c = search needs
-
-same-length-2 : tie.Need-same-length-2 Inv-loop μ-loop
-same-length-2 c = search needs
-
-same-length-3 : tie.Need-same-length-3 Inv-loop μ-loop
-same-length-3 c = search needs
-
-same-length-4 : tie.Need-same-length-4 Inv-loop μ-loop
-same-length-4 c = search needs
 
 returns : tie.Need-returns Inv-loop μ-loop
 returns c =
@@ -84,14 +63,14 @@ list-all-spec =
     Inv-loop
     μ-loop
     loop-holds
-    one-page-requires
+    (λ c κs. search needs)
     write-first-requires
-    held-add-requires
-    held-add-requires-2
-    same-length
-    same-length-2
-    same-length-3
-    same-length-4
+    (λ c κs. search needs)
+    (λ c κs. search needs)
+    (λ c. search needs)
+    (λ c. search needs)
+    (λ c. search needs)
+    (λ c. search needs)
     returns
     loop-less
     loop-again)

@@ -15,9 +15,6 @@ use borrow.Author.Needs.{needs}
 use Rattle.listing.proofs.one_page.Statement.{statement}
 use Rattle.listing.proofs.one_page.Tie as tie
 
-page-requires : tie.Need-page-requires
-page-requires c κs = search needs
-
 slice-reshare-prefix-print-entries : tie.Need-slice-reshare-prefix-print-entries
 slice-reshare-prefix-print-entries c = used-fits (page-bounds _ _ _ _ _ _ _) (c .before .before .before .before .before .before .page .ensures .replies)
 
@@ -29,18 +26,6 @@ print-entries-requires : tie.Need-print-entries-requires
 print-entries-requires c κs =
     let r = c .before .before .before .before .before .before .before .before .page in
     omega (arith, length-take (r .result .used) (r .last .1 .1 .0), r .kept .1 .1 .0)
-
-same-length : tie.Need-same-length
-same-length c = search needs
-
-same-length-2 : tie.Need-same-length-2
-same-length-2 c = search needs
-
-same-length-3 : tie.Need-same-length-3
-same-length-3 c = search needs
-
-same-length-4 : tie.Need-same-length-4
-same-length-4 c = search needs
 
 returns : tie.Need-returns
 returns c =
@@ -57,12 +42,12 @@ pub one-page-spec : {M : Type 1} → statement M
 one-page-spec =
     tie.close
     (tie.spec
-    page-requires
+    (λ c κs. search needs)
     slice-reshare-prefix-print-entries
     slice-aggregate-print-entries
     print-entries-requires
-    same-length
-    same-length-2
-    same-length-3
-    same-length-4
+    (λ c. search needs)
+    (λ c. search needs)
+    (λ c. search needs)
+    (λ c. search needs)
     returns)

@@ -12,9 +12,6 @@ returns c = record { value = number-empty _ (c .if1 .taken); small = tt }
 returns-2 : tie.Need-returns-2
 returns-2 c = record { value = number-long _ (c .if2 .taken); small = tt }
 
-shared-slice-read-first : tie.Need-shared-slice-read-first
-shared-slice-read-first c = search needs
-
 digits-requires : tie.Need-digits-requires
 digits-requires c κs = omega arith
 
@@ -41,7 +38,7 @@ number-spec =
     (tie.spec
     returns
     returns-2
-    shared-slice-read-first
+    (λ c. search needs)
     digits-requires
     returns-3
     returns-4

@@ -19,16 +19,10 @@ Inv-loop position i₀ i = (i ≤ length position) × (i₀ ≤ i) × ((k : ℕ)
 abbrev μ-loop : tie.MeasureT-loop
 μ-loop position i₀ i = length position - i
 
-decided-count-requires : tie.Need-decided-count-requires Inv-loop μ-loop
-decided-count-requires c κs = search needs
-
 loop-holds : tie.Need-loop-holds Inv-loop μ-loop
 loop-holds c =
     let p = c .before .before .args .position .now in
     (omega (arith, c .decided-count .ensures, least-le (length p) (is 0 p)), omega arith, λ k a b. absurd (omega arith))
-
-shared-slice-read-if1 : tie.Need-shared-slice-read-if1 Inv-loop μ-loop
-shared-slice-read-if1 c = search needs
 
 returns : tie.Need-returns Inv-loop μ-loop
 returns c =
@@ -36,12 +30,6 @@ returns c =
     sym
     (gap-found _ (l .i)
     (omega (arith, c .before .before .before .before .decided-count .ensures, l .inv .1)) (omega arith) (c .if1 .taken))
-
-add-i : tie.Need-add-i Inv-loop μ-loop
-add-i c = search needs
-
-loop-less : tie.Need-loop-less Inv-loop μ-loop
-loop-less c = search needs
 
 loop-again : tie.Need-loop-again Inv-loop μ-loop
 loop-again c =
@@ -64,11 +52,11 @@ has-gap-spec =
     (tie.spec
     Inv-loop
     μ-loop
-    decided-count-requires
+    (λ c κs. search needs)
     loop-holds
-    shared-slice-read-if1
+    (λ c. search needs)
     returns
-    add-i
-    loop-less
+    (λ c. search needs)
+    (λ c. search needs)
     loop-again
     returns-2)

@@ -23,19 +23,10 @@ abbrev μ-loop : tie.MeasureT-loop
 loop-holds : tie.Need-loop-holds Inv-loop μ-loop
 loop-holds c = (omega arith, λ k h. absurd (omega arith))
 
-is-apart-at-requires : tie.Need-is-apart-at-requires Inv-loop μ-loop
-is-apart-at-requires c κs = search needs
-
 returns : tie.Need-returns Inv-loop μ-loop
 returns c =
     let b = c .before .before .before .before .before .before .before in
     sym (apart-found _ _ (omega (arith, b .pre .1, table-size (b .args .n) (b .args .table .now))) (c .before .before .before .loop .s) (omega arith) (sym (c .before .is-apart-at .ensures) ∙ c .if1 .taken))
-
-add-s : tie.Need-add-s Inv-loop μ-loop
-add-s c = search needs
-
-loop-less : tie.Need-loop-less Inv-loop μ-loop
-loop-less c = search needs
 
 loop-again : tie.Need-loop-again Inv-loop μ-loop
 loop-again c = (omega arith, below-more _ _ (c .before .before .before .loop .inv .1) (sym (c .before .is-apart-at .ensures) ∙ c .if1 .left))
@@ -50,9 +41,9 @@ is-apart-spec =
     Inv-loop
     μ-loop
     loop-holds
-    is-apart-at-requires
+    (λ c κs. search needs)
     returns
-    add-s
-    loop-less
+    (λ c. search needs)
+    (λ c. search needs)
     loop-again
     returns-2)

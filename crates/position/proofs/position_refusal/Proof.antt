@@ -12,30 +12,18 @@ use borrow.Author.Needs.{needs}
 use Rattle.position.proofs.position_refusal.Statement.{statement}
 use Rattle.position.proofs.position_refusal.Tie as tie
 
-any-over-requires : tie.Need-any-over-requires
-any-over-requires c κs = search needs
-
 returns : tie.Need-returns
 unfolding refuse
 returns c s f = position-by _ _ (sym (c .before .any-over .ensures) ∙ c .if1 .taken) refl refl
-
-has-gap-requires : tie.Need-has-gap-requires
-has-gap-requires c κs = search needs
 
 returns-2 : tie.Need-returns-2
 unfolding refuse
 returns-2 c s f = position-by _ _ (sym (c .before .before .before .any-over .ensures) ∙ c .before .before .if1 .left) (sym (c .before .has-gap .ensures) ∙ c .if2 .taken) refl
 
-decided-count-requires : tie.Need-decided-count-requires
-decided-count-requires c κs = search needs
-
 returns-3 : tie.Need-returns-3
 unfolding refuse
 returns-3 c s f =
     position-by-dead _ s _ refl (sym (c .before .before .before .before .before .any-over .ensures) ∙ c .before .before .before .before .if1 .left) (sym (c .before .before .before .has-gap .ensures) ∙ c .before .before .if2 .left) (sym (c .if3 .taken) ∙ c .before .decided-count .ensures) (nothing-live _ (s .factor))
-
-sub-e : tie.Need-sub-e
-sub-e c = search needs
 
 slice-aggregate-is-dead : tie.Need-slice-aggregate-is-dead
 slice-aggregate-is-dead c =
@@ -62,13 +50,13 @@ pub position-refusal-spec : {M : Type 1} → statement M
 position-refusal-spec =
     tie.close
     (tie.spec
-    any-over-requires
+    (λ c κs. search needs)
     returns
-    has-gap-requires
+    (λ c κs. search needs)
     returns-2
-    decided-count-requires
+    (λ c κs. search needs)
     returns-3
-    sub-e
+    (λ c. search needs)
     slice-aggregate-is-dead
     is-dead-requires
     returns-4

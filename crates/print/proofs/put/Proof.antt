@@ -21,29 +21,14 @@ loop-holds c =
     let b = c .args .bytes .now in
     (omega arith, subst (λ (e : ℕ). Puts b (c .args .at) [] b e) (omega arith) (puts-none (omega arith)))
 
-shared-slice-read-bytes : tie.Need-shared-slice-read-bytes Inv-loop μ-loop
-shared-slice-read-bytes c = search needs
-
-add-bytes : tie.Need-add-bytes Inv-loop μ-loop
-add-bytes c = search needs
-
 slice-write-bytes : tie.Need-slice-write-bytes Inv-loop μ-loop
 slice-write-bytes c = omega (arith, puts-length (c .before .before .loop .inv .1))
-
-add-i : tie.Need-add-i Inv-loop μ-loop
-add-i c = search needs
-
-loop-less : tie.Need-loop-less Inv-loop μ-loop
-loop-less c = search needs
 
 loop-again : tie.Need-loop-again Inv-loop μ-loop
 loop-again c =
     let l = c .before .before in
     let p = l .loop .inv .1 in
     (omega arith, puts-next (l .before .args .word .now) (l .loop .i) p (omega arith) (omega (arith, puts-length p)))
-
-add-result : tie.Need-add-result Inv-loop μ-loop
-add-result c = search needs
 
 same-length : tie.Need-same-length Inv-loop μ-loop
 same-length c = puts-length (c .before .loop .inv .1)
@@ -58,12 +43,12 @@ put-spec =
     Inv-loop
     μ-loop
     loop-holds
-    shared-slice-read-bytes
-    add-bytes
+    (λ c. search needs)
+    (λ c. search needs)
     slice-write-bytes
-    add-i
-    loop-less
+    (λ c. search needs)
+    (λ c. search needs)
     loop-again
-    add-result
+    (λ c. search needs)
     same-length
     returns)

@@ -5,41 +5,17 @@ use borrow.Author.Needs.{needs}
 use Rattle.print.proofs.put_entry.Statement.{statement}
 use Rattle.print.proofs.put_entry.Tie as tie
 
-slice-write-bytes : tie.Need-slice-write-bytes
-slice-write-bytes c = search needs
-
-add-t10 : tie.Need-add-t10
-add-t10 c = search needs
-
-same-length : tie.Need-same-length
-same-length c = search needs
-
 returns : tie.Need-returns
 returns c = put-empty (c .before .if1 .taken) (c .if2 .taken) (omega arith)
 
 returns-2 : tie.Need-returns-2
 returns-2 c = put-size (c .before .if1 .taken) (c .if2 .left) (omega arith)
 
-add-put-number : tie.Need-add-put-number
-add-put-number c = search needs
-
 put-number-requires : tie.Need-put-number-requires
 put-number-requires c κs = number-fits _ _ _ (omega arith) (omega arith)
 
-parting-requires : tie.Need-parting-requires
-parting-requires c κs = search needs
-
 slice-write-bytes-2 : tie.Need-slice-write-bytes-2
 slice-write-bytes-2 c = byte-fits _ (omega arith) (omega arith) (c .before .before .before .put-number .ensures)
-
-add-t13 : tie.Need-add-t13
-add-t13 c = search needs
-
-sub-t16 : tie.Need-sub-t16
-sub-t16 c = search needs
-
-same-length-2 : tie.Need-same-length-2
-same-length-2 c = search needs
 
 returns-3 : tie.Need-returns-3
 returns-3 c =
@@ -50,16 +26,16 @@ pub put-entry-spec : {M : Type 1} → statement M
 put-entry-spec =
     tie.close
     (tie.spec
-    slice-write-bytes
-    add-t10
-    same-length
+    (λ c. search needs)
+    (λ c. search needs)
+    (λ c. search needs)
     returns
     returns-2
-    add-put-number
+    (λ c. search needs)
     put-number-requires
-    parting-requires
+    (λ c κs. search needs)
     slice-write-bytes-2
-    add-t13
-    sub-t16
-    same-length-2
+    (λ c. search needs)
+    (λ c. search needs)
+    (λ c. search needs)
     returns-3)

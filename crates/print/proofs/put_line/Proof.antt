@@ -7,18 +7,6 @@ use borrow.Author.Needs.{needs}
 use Rattle.print.proofs.put_line.Statement.{statement}
 use Rattle.print.proofs.put_line.Tie as tie
 
-put-requires : tie.Need-put-requires
-put-requires c κs = search needs
-
-put-number-requires : tie.Need-put-number-requires
-put-number-requires c κs = search needs
-
-slice-write-bytes : tie.Need-slice-write-bytes
-slice-write-bytes c = search needs
-
-add-put-number : tie.Need-add-put-number
-add-put-number c = search needs
-
 put-number-requires-2 : tie.Need-put-number-requires-2
 put-number-requires-2 c κs =
     let q = c .before .before .before .put-number .ensures in
@@ -32,9 +20,6 @@ slice-write-bytes-2 c =
     let n = c .before .before .before .before .before .before in
     let w = n .before .before .before .before in
     line-end (w .put .ensures) (n .put-number .ensures) (c .before .before .put-number2 .ensures) (omega arith)
-
-add-result : tie.Need-add-result
-add-result c = search needs
 
 same-length : tie.Need-same-length
 same-length c =
@@ -51,12 +36,12 @@ pub put-line-spec : {M : Type 1} → statement M
 put-line-spec =
     tie.close
     (tie.spec
-    put-requires
-    put-number-requires
-    slice-write-bytes
-    add-put-number
+    (λ c κs. search needs)
+    (λ c κs. search needs)
+    (λ c. search needs)
+    (λ c. search needs)
     put-number-requires-2
     slice-write-bytes-2
-    add-result
+    (λ c. search needs)
     same-length
     returns)

@@ -23,15 +23,6 @@ loop-holds c =
     let start = c .before .before in
     (omega arith, pairs-none _ (start .pre .1))
 
-add-end : tie.Need-add-end Inv-loop μ-loop
-add-end c = omega arith
-
-mul-v : tie.Need-mul-v Inv-loop μ-loop
-mul-v c = omega arith
-
-shared-slice-read-v : tie.Need-shared-slice-read-v Inv-loop μ-loop
-shared-slice-read-v c = omega arith
-
 cast-v : tie.Need-cast-v Inv-loop μ-loop
 cast-v c = omega (arith, c .shared-slice-known3 .given (c .before .before .before .before .before .args .n + c .before .before .loop .i))
 
@@ -49,12 +40,6 @@ returns c =
     sym
     (pairs-apart _ (start .pre .1) (turn .before .loop .i) (turn .loop-test .taken)
     (sym (c .before .joined-to-all .ensures) ∙ not-true _ (c .if1 .taken)))
-
-add-i : tie.Need-add-i Inv-loop μ-loop
-add-i c = omega arith
-
-loop-less : tie.Need-loop-less Inv-loop μ-loop
-loop-less c = omega arith
 
 loop-again : tie.Need-loop-again Inv-loop μ-loop
 loop-again c =
@@ -79,13 +64,13 @@ pairwise-joined-spec =
     Inv-loop
     μ-loop
     loop-holds
-    add-end
-    mul-v
-    shared-slice-read-v
+    (λ c. omega arith)
+    (λ c. omega arith)
+    (λ c. omega arith)
     cast-v
     joined-to-all-requires
     returns
-    add-i
-    loop-less
+    (λ c. omega arith)
+    (λ c. omega arith)
     loop-again
     returns-2)

@@ -15,14 +15,8 @@ use borrow.Author.Needs.{needs}
 use Rattle.query.proofs.query_refusal.Statement.{statement}
 use Rattle.query.proofs.query_refusal.Tie as tie
 
-table-refusal-requires : tie.Need-table-refusal-requires
-table-refusal-requires c κs = search needs
-
 returns : tie.Need-returns
 returns c = query-table _ _ _ _ _ (c .before .table-refusal .ensures) (c .if1 .taken)
-
-settings-refusal-requires : tie.Need-settings-refusal-requires
-settings-refusal-requires c κs = search needs
 
 -- the table is accepted
 accepted : (c : tie.Else1) → refuseTable (c .before .before .before .before .args .n) (c .before .before .before .before .args .table .now) 0 ≡ 0
@@ -49,9 +43,6 @@ returns-4 : tie.Need-returns-4
 unfolding refuse
 returns-4 c = later (c .before .before) false true _ (ap not (eq-eqb _ _ (c .before .if3 .left))) (lt-ltb _ _ (c .if4 .taken)) refl
 
-any-over-requires : tie.Need-any-over-requires
-any-over-requires c κs = search needs
-
 returns-5 : tie.Need-returns-5
 unfolding refuse
 returns-5 c = later (c .before .before .before .before) false false true (ap not (eq-eqb _ _ (c .before .before .before .if3 .left))) (le-ltb _ _ (c .before .before .if4 .left)) (sym (c .before .any-over .ensures) ∙ c .if5 .taken)
@@ -64,13 +55,13 @@ pub query-refusal-spec : {M : Type 1} → statement M
 query-refusal-spec =
     tie.close
     (tie.spec
-    table-refusal-requires
+    (λ c κs. search needs)
     returns
-    settings-refusal-requires
+    (λ c κs. search needs)
     returns-2
     mul-wanted
     returns-3
     returns-4
-    any-over-requires
+    (λ c κs. search needs)
     returns-5
     returns-6)

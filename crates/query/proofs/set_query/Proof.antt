@@ -16,14 +16,8 @@ use borrow.Author.Needs.{needs}
 use Rattle.query.proofs.set_query.Statement.{statement}
 use Rattle.query.proofs.set_query.Tie as tie
 
-query-refusal-requires : tie.Need-query-refusal-requires
-query-refusal-requires c κs = search needs
-
 returns : tie.Need-returns
 returns c = answer-refused (c .before .query-refusal .result) (c .before .query-refusal .ensures) (c .if1 .taken)
-
-slice-aggregate-fill-degrees : tie.Need-slice-aggregate-fill-degrees
-slice-aggregate-fill-degrees c = refl
 
 -- the call is accepted
 accepted : (c : tie.Else1) → refuseQuery (c .before .before .before .before .before .args .n) (c .before .before .before .before .before .args .table .now) (settings (c .before .before .before .before .before .args .notion) (c .before .before .before .before .before .args .kind) (c .before .before .before .before .before .args .c)) (c .before .before .before .before .before .args .set .now) (length (c .before .before .before .before .before .args .work .now)) ≡ 0
@@ -64,9 +58,9 @@ pub set-query-spec : {M : Type 1} → statement M
 set-query-spec =
     tie.close
     (tie.spec
-    query-refusal-requires
+    (λ c κs. search needs)
     returns
-    slice-aggregate-fill-degrees
+    (λ c. refl)
     fill-degrees-requires
     slice-aggregate-set-qualifies
     set-qualifies-requires

@@ -21,15 +21,6 @@ loop-holds c =
     let start = c .before .before in
     (omega arith, omega arith, omega arith, tallies-none (start .pre .1) (start .args .ranks .now))
 
-add-v : tie.Need-add-v Inv-loop μ-loop
-add-v c = omega arith
-
-mul-v : tie.Need-mul-v Inv-loop μ-loop
-mul-v c = omega arith
-
-shared-slice-read-v : tie.Need-shared-slice-read-v Inv-loop μ-loop
-shared-slice-read-v c = omega arith
-
 cast-v : tie.Need-cast-v Inv-loop μ-loop
 cast-v c = omega (arith, c .shared-slice-known3 .given (c .before .before .before .before .before .args .n + c .before .before .loop .i))
 
@@ -57,12 +48,6 @@ cast-d c = omega (arith, degree-small c)
 with-member-requires : tie.Need-with-member-requires Inv-loop μ-loop
 with-member-requires c κs = (omega arith, omega arith, degree-small c)
 
-add-i : tie.Need-add-i Inv-loop μ-loop
-add-i c = omega arith
-
-loop-less : tie.Need-loop-less Inv-loop μ-loop
-loop-less c = omega arith
-
 loop-again : tie.Need-loop-again Inv-loop μ-loop
 loop-again c =
     let turn = c .before .before .before in
@@ -87,16 +72,16 @@ tally-of-spec =
     Inv-loop
     μ-loop
     loop-holds
-    add-v
-    mul-v
-    shared-slice-read-v
+    (λ c. omega arith)
+    (λ c. omega arith)
+    (λ c. omega arith)
     cast-v
     add-d
     mul-d
     shared-slice-read-d
     cast-d
     with-member-requires
-    add-i
-    loop-less
+    (λ c. omega arith)
+    (λ c. omega arith)
     loop-again
     returns)

@@ -7,7 +7,7 @@ use native.Mathlib.Numerals.{add-one}
 use native.Mathlib.Omega.{arith}
 use lib.ListN.{length, getD, take, drop, set, length-take, length-drop, length-set}
 use lib.Seq.{drop-set-add, drop-set-lt, take-set-le, take-suc-set, getD-take, getD-drop, getD-set-other, ext-getD, take-take, take-at}
-use Rattle.theory.specs.Parts.{part, Kept, Listed}
+use Rattle.theory.specs.Parts.{part, Kept, Filled}
 
 pub part-length : (w : List ℕ) (a k : ℕ) → a + k ≤ length w → length (part w a k) ≡ k
 part-length w a k h = simp (length-take, length-drop) (omega arith)
@@ -95,18 +95,18 @@ same-members n k w₀ w kept h = ap (part w n) short ∙ part-below _ _ w₀ w k
 -- ---- a list written by a loop, entry by entry
 
 -- the same for the slice and the number that code calls by other names
-pub listed-same : {a b : ℕ} {l w₀ w w₁ : List ℕ} {k k₁ : ℕ} → w₁ ≡ w → k₁ ≡ k → Listed a b l w₀ w k → Listed a b l w₀ w₁ k₁
-listed-same {a} {b} {l} {w₀} {w} {w₁} {k} {k₁} e f s =
-    subst (λ (u : List ℕ). Listed a b l w₀ u k₁) (sym e) (subst (λ (j : ℕ). Listed a b l w₀ w j) (sym f) s)
+pub filled-same : {a b : ℕ} {l w₀ w w₁ : List ℕ} {k k₁ : ℕ} → w₁ ≡ w → k₁ ≡ k → Filled a b l w₀ w k → Filled a b l w₀ w₁ k₁
+filled-same {a} {b} {l} {w₀} {w} {w₁} {k} {k₁} e f s =
+    subst (λ (u : List ℕ). Filled a b l w₀ u k₁) (sym e) (subst (λ (j : ℕ). Filled a b l w₀ w j) (sym f) s)
 
 module _ (a b : ℕ) (w₀ : List ℕ) where
-  pub listed-none : (l : List ℕ) → l ≡ [] → Listed a b l w₀ w₀ 0
-  listed-none l e = record { listed = sym e; kept = kept-none a b w₀ }
+  pub filled-none : (l : List ℕ) → l ≡ [] → Filled a b l w₀ w₀ 0
+  filled-none l e = record { listed = sym e; kept = kept-none a b w₀ }
 
-  module _ {l w : List ℕ} {k : ℕ} (s : Listed a b l w₀ w k) where
+  module _ {l w : List ℕ} {k : ℕ} (s : Filled a b l w₀ w k) where
     -- one more entry is written right after those that stand
-    pub listed-push : (x : ℕ) (m : List ℕ) → m ≡ l ++ (x ∷ []) → a + k < b → b ≤ length w₀ → Listed a b m w₀ (set w (a + k) x) (k + 1)
-    listed-push x m e h f =
+    pub filled-push : (x : ℕ) (m : List ℕ) → m ≡ l ++ (x ∷ []) → a + k < b → b ≤ length w₀ → Filled a b m w₀ (set w (a + k) x) (k + 1)
+    filled-push x m e h f =
         let n = s .kept .length-kept in
         record {
           listed = part-push w a k x (omega arith) ∙ ap (λ (us : List ℕ). us ++ (x ∷ [])) (s .listed) ∙ sym e;
@@ -114,5 +114,5 @@ module _ (a b : ℕ) (w₀ : List ℕ) where
         }
 
     -- one is passed over
-    pub listed-pass : (m : List ℕ) → m ≡ l → Listed a b m w₀ w k
-    listed-pass m e = record { listed = s .listed ∙ sym e; kept = s .kept }
+    pub filled-pass : (m : List ℕ) → m ≡ l → Filled a b m w₀ w k
+    filled-pass m e = record { listed = s .listed ∙ sym e; kept = s .kept }

@@ -10,7 +10,7 @@ use native.Mathlib.Nat.{not-suc-le-zero}
 use lib.ListN.{length, getD, set, length-set}
 use lib.Dec.{eqb·zero-suc}
 use borrow.Author.Tests.{eqb-true, eq-eqb, ne-eqb}
-use Rattle.model.specs.Below.{count, least}
+use Rattle.model.specs.Below.{least}
 use Rattle.model.specs.Graph.{Graph, vertexAt}
 use Rattle.model.specs.Groups.{Factor}
 use Rattle.model.specs.Meaning.{Under}

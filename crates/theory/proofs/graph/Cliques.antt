@@ -10,13 +10,13 @@ use lib.Dec.{eqb}
 use borrow.Author.Tests.{eq-eqb, ne-eqb}
 use Rattle.model.specs.Below.{implies, all, count}
 use Rattle.model.specs.Graph.{Graph, degree, rankOf}
-use Rattle.model.specs.Groups.{Factor, VertexSet, within, sizeOf, outside, outgoing, with-vertex}
-use Rattle.model.specs.Meaning.{In, Under, Clique, Isolated, IsolatedClique, Larger}
+use Rattle.model.specs.Groups.{Factor, VertexSet, sizeOf, outside, outgoing, with-vertex}
+use Rattle.model.specs.Meaning.{In, Under, Clique, Isolated, Larger}
 use Rattle.theory.specs.Search.{Loopless, Symmetric, JoinsAll, common, Common}
-use Rattle.theory.proofs.basics.Tests.{Test, test-and, test-or, test-implies, test-self, test-fails, test-eq, test-all, trichotomy, fails, passes-or-fails, count-same}
+use Rattle.theory.proofs.basics.Tests.{Test, test-and, test-or, test-implies, test-self, test-fails, test-eq, test-all, trichotomy, fails, count-same}
 use Rattle.theory.proofs.basics.Counting.{count-remove, count-split, count-sub}
 use Rattle.theory.proofs.graph.Ranks.{rank-degree}
-use Rattle.theory.proofs.graph.Factor.{under-test, under-mono, under-sum}
+use Rattle.theory.proofs.graph.Factor.{under-sum}
 
 -- in a clique each member has the others as neighbours
 module _ (G : Graph) (loopless : Loopless G) (S : VertexSet) (C : Clique G S) where

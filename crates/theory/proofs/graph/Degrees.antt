@@ -9,17 +9,17 @@ use native.Mathlib.Nat.{not-suc-le-zero, lt-suc-self, le-suc, le-trans}
 use native.Mathlib.Omega.{arith}
 use lib.Dec.{eqb}
 use borrow.Author.Tests.{eq-eqb, ne-eqb}
-use Rattle.model.specs.Below.{bit, implies, all, any, count, total}
+use Rattle.model.specs.Below.{bit, count, total}
 use Rattle.model.specs.Graph.{Graph, degree}
-use Rattle.model.specs.Groups.{Factor, VertexSet, within, sizeOf, outside, outgoing, isolatedMin, isolatedAvg, isolatedMax, isolated, with-vertex}
+use Rattle.model.specs.Groups.{Factor, VertexSet, within, sizeOf, outside, outgoing, isolatedAvg, isolated, with-vertex}
 use Rattle.model.specs.Meaning.{In, Clique}
 use Rattle.theory.specs.Search.{Loopless, gather, degreeSum, leastDegree, largestDegree, isolatedBy, Tally}
 pub use Rattle.theory.proofs.basics.Tests.{test-agree, any-same, all-same}
-use Rattle.theory.proofs.basics.Tests.{test-self, test-any, test-all, last-or-below, trichotomy, lt-or-ge, count-same, count-le}
+use Rattle.theory.proofs.basics.Tests.{last-or-below, trichotomy, lt-or-ge, count-same, count-le}
 use Rattle.theory.proofs.basics.Counting.{count-remove}
 use Rattle.theory.proofs.graph.Meaning.{isolated-test}
 use Rattle.theory.proofs.graph.Factor.{under-test, under-mono}
-use Rattle.theory.proofs.graph.Cliques.{outside-degree, outside-is, same-vertex, other-vertex}
+use Rattle.theory.proofs.graph.Cliques.{outside-degree, same-vertex, other-vertex}
 
 -- what is gathered goes by what stands below n
 pub gather-same : (op : ℕ → ℕ → ℕ) (start n : ℕ) (S T : VertexSet) (f : ℕ → ℕ) → ((i : ℕ) → i < n → S i ≡ T i)

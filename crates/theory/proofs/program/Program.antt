@@ -56,29 +56,29 @@ words-passed (a ∷ b ∷ c ∷ []) = three-passed (numberOf a) (numberOf b) (nu
 words-passed (a ∷ b ∷ c ∷ d ∷ ds) = omega arith
 
 -- what is listed has settings and a table without fault, and a refusal has a number
-abbrev pub Listable : Verdict → Type 0
-Listable (refusal k line) = 0 < k
-Listable (listing s n t) = (refuseSettings s 0 ≡ 0) × (refuseTable n t 0 ≡ 0)
+abbrev pub Answerable : Verdict → Type 0
+Answerable (refusal k line) = 0 < k
+Answerable (listing s n t) = (refuseSettings s 0 ≡ 0) × (refuseTable n t 0 ≡ 0)
 
 reading-listable : (k : ℕ) (s : Settings) (r : TextReply) → refuseSettings s 0 ≡ 0
-    → (k ≡ 0 → refuseTable (r .vertices) (take (r .vertices * r .vertices) (r .slice)) 0 ≡ 0) → Listable (byReading k s r)
+    → (k ≡ 0 → refuseTable (r .vertices) (take (r .vertices * r .vertices) (r .slice)) 0 ≡ 0) → Answerable (byReading k s r)
 unfolding byReading
 reading-listable zero s r h f = (h, f refl)
 reading-listable (suc k) s r h f = omega arith
 
-words-listable : (w : Words) (text : List ℕ) → Passed w → Listable (byWords w text)
+words-listable : (w : Words) (text : List ℕ) → Passed w → Answerable (byWords w text)
 unfolding byWords reading
 words-listable (wrong k) text h = h
 words-listable (chosen s) text h =
     go (ltb 65536 (length text)) (reading-listable (reading text .refused) s (reading text) h (read-table-accepted text (replicate 65536 0)))
   where
-    go : (b : Bool) → Listable (byReading (reading text .refused) s (reading text))
-        → Listable (cond b (refusal 41 0) (byReading (reading text .refused) s (reading text)))
+    go : (b : Bool) → Answerable (byReading (reading text .refused) s (reading text))
+        → Answerable (cond b (refusal 41 0) (byReading (reading text .refused) s (reading text)))
     go true l = omega arith
     go false l = l
 
 -- so for any words and text
-pub verdict-listable : (words : List (List ℕ)) (text : List ℕ) → Listable (programVerdict words text)
+pub verdict-listable : (words : List (List ℕ)) (text : List ℕ) → Answerable (programVerdict words text)
 unfolding programVerdict
 verdict-listable words text = words-listable (settingsOfWords words) text (words-passed words)
 
@@ -153,7 +153,7 @@ at-once (listing s n t) a b p q =
 pub prints-once : (words : List (List ℕ)) (text a b : List ℕ) → Prints words text a → Prints words text b → a ≡ b
 prints-once words text = at-once (programVerdict words text)
 
-at-some : (x : Verdict) → Listable x → (out : List ℕ) × PrintsAt x out
+at-some : (x : Verdict) → Answerable x → (out : List ℕ) × PrintsAt x out
 unfolding PrintsAt
 at-some (refusal k line) l = (refusedLine k line, refl)
 at-some (listing s n t) l = let w = walk-ends (rules (byTable n t) s) n (table-lawful n t s (l .1)) in (_, (w .0, w .1, refl))
@@ -165,7 +165,7 @@ prints-some words text = at-some (programVerdict words text) (verdict-listable w
 -- ---- page by page
 
 -- no page call on what is listed is refused: not from fresh, nor from any position that the walk reaches
-pub listing-accepted : (s : Settings) (n : ℕ) (t : List ℕ) → Listable (listing s n t) → (k work : ℕ) → 8 * n ≤ work
+pub listing-accepted : (s : Settings) (n : ℕ) (t : List ℕ) → Answerable (listing s n t) → (k work : ℕ) → 8 * n ≤ work
     → refusePage n t s (after (rules (byTable n t) s) k (fresh n)) work ≡ 0
 listing-accepted s n t l = walk-page-accepted n t s (l .1) (l .0)
 
@@ -211,7 +211,7 @@ pub pages-print : (words : List (List ℕ)) (text : List ℕ) (s : Settings) (n 
     → Prints words text (printedPages rs ++ endLine (held (allGroups rs)) (held (allSteps rs)))
 pages-print words text s n t e rs chain ended =
     subst⁻¹ (λ (x : Verdict). PrintsAt x (printedPages rs ++ endLine (held (allGroups rs)) (held (allSteps rs)))) e
-    (at-pages s n t (subst Listable e (verdict-listable words text) .1) rs chain ended)
+    (at-pages s n t (subst Answerable e (verdict-listable words text) .1) rs chain ended)
 
 -- ---- the example of document 01
 

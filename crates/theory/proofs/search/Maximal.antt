@@ -2,9 +2,9 @@
 -- Assumes nothing.
 use Prim.Native.Nat.{ℕ, zero, suc, _<_}
 use mathlib.Core.Path.{_≡_, sym, ap, _∙_}
-use mathlib.Core.Bool.{Bool, true, false, _&&_, not, cond, true≢false}
+use mathlib.Core.Bool.{Bool, true, false, _&&_, not, true≢false}
 use mathlib.Core.Logic.{_⊎_, inl, inr}
-use mathlib.Core.List.{List, []}
+use mathlib.Core.List.{List}
 use native.Mathlib.Omega.{arith}
 use lib.ListN.{length, getD}
 use lib.Dec.{ltb}
@@ -12,14 +12,13 @@ use Rattle.model.specs.Below.{any}
 use Rattle.model.specs.Graph.{Graph}
 use Rattle.model.specs.Groups.{Factor, Settings, VertexSet, isolated, with-vertex, someLarger, rival, qualifies}
 use Rattle.model.specs.Meaning.{Clique, Isolated}
-use Rattle.theory.specs.Search.{Loopless, Symmetric, common, Tally, isolatedBy, findCut, Candidates, searched, beaten}
+use Rattle.theory.specs.Search.{Loopless, Symmetric, common, Tally, isolatedBy, Candidates, searched, beaten}
 use Rattle.theory.proofs.basics.Tests.{Test, test-agree, test-self, test-lt, test-any, fails, passes-or-fails}
 use Rattle.theory.proofs.graph.Meaning.{isolated-test, isolatedClique-test, rivals, rivals-test, qualifies-iff}
 use Rattle.theory.proofs.graph.Cliques.{joins-larger, joins-clique, common-test, further-common}
 use Rattle.theory.proofs.graph.Degrees.{isolated-tally}
 use Rattle.theory.proofs.walk.Listing.{min-larger}
 use Rattle.theory.proofs.search.Search.{search-larger}
-use Rattle.theory.proofs.search.Cut.{search-cut}
 
 module _ (G : Graph) (loopless : Loopless G) (symmetric : Symmetric G) (S : VertexSet) (C : Clique G S) where
   some-common : Test (any (G .size) (common G S)) ((v : ℕ) × (v < G .size) × (common G S v ≡ true))

@@ -9,7 +9,7 @@ use lib.ListN.{length, getD, drop, length-drop, drop-of-length-le}
 use lib.Seq.{drop-cons}
 use Rattle.model.specs.Graph.{Graph, degree}
 use Rattle.model.specs.Groups.{Factor}
-use Rattle.theory.specs.Search.{isolatedBy, joinedAll, findLarger, hopeless, find, findCut}
+use Rattle.theory.specs.Search.{isolatedBy, joinedAll, hopeless, find, findCut}
 
 -- one candidate: a, it is joined to those added; h, the set with it is isolated; d, the search finds more with it; r, the search finds more without it
 module _ (a h d r : Bool) where

@@ -4,7 +4,6 @@ use Prim.Native.Nat.{ℕ, zero, suc, _-_}
 use mathlib.Core.Path.{_≡_, refl, sym, ap, ap₂, _∙_}
 use mathlib.Core.Bool.{Bool, true, false, _&&_, not, cond, true≢false}
 use mathlib.Core.List.{[], _∷_, _++_, append-assoc}
-use native.Mathlib.Omega.{arith}
 use lib.ListN.{length, set, length-replicate}
 use lib.Dec.{eqb·suc-zero}
 use Rattle.model.specs.Below.{least}

@@ -3,15 +3,15 @@
 -- Assumes nothing.
 use Prim.Native.Nat.{ℕ, zero, suc, _+_, _-_, _≤_, _<_}
 use mathlib.Core.Path.{_≡_, refl, sym, ap, _∙_, subst}
-use mathlib.Core.Bool.{Bool, true, false, _&&_, not, false≢true}
+use mathlib.Core.Bool.{Bool, true, false, _&&_, not}
 use mathlib.Core.List.{[], _∷_, _++_}
-use mathlib.Core.Logic.{_≢_, _⊎_, inl, inr}
+use mathlib.Core.Logic.{_≢_}
 use native.Mathlib.Nat.{not-suc-le-zero}
 use native.Mathlib.Omega.{arith}
 use lib.ListN.{length, getD, take, set}
 use Rattle.model.specs.Walk.{Position, Rules, only, has, fresh, finished, advance, retreat, step, after}
 use Rattle.model.specs.Calls.{refusePosition}
-use Rattle.theory.proofs.basics.Tests.{Test, test-or, test-eq, fails}
+use Rattle.theory.proofs.basics.Tests.{fails}
 use Rattle.theory.proofs.calls.DeadPosition.{in-length}
 use Rattle.theory.proofs.walk.Remaining.{has-test, retreat-deep, retreat-here}
 use Rattle.theory.proofs.walk.Walk.{Lawful, after-add}

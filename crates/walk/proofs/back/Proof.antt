@@ -10,15 +10,6 @@ use borrow.Author.Needs.{needs}
 use Rattle.walk.proofs.back.Statement.{statement}
 use Rattle.walk.proofs.back.Tie as tie
 
-sub-k : tie.Need-sub-k
-sub-k c = search needs
-
-entry-at-requires : tie.Need-entry-at-requires
-entry-at-requires c κs = search needs
-
-add-entry-at : tie.Need-add-entry-at
-add-entry-at c = search needs
-
 entry-at-requires-2 : tie.Need-entry-at-requires-2
 entry-at-requires-2 c κs =
     let b = c .before .before .before .before .before .before .before .before in
@@ -72,9 +63,6 @@ same-length : tie.Need-same-length
 same-length c =
     c .before .before .before .before .before .before .open-ranks .ensures .same-length ∙ length-set (c .before .before .before .before .before .before .before .before .before .before .before .before .before .before .before .before .before .before .before .before .before .args .position .now) _ _
 
-same-length-2 : tie.Need-same-length-2
-same-length-2 c = search needs
-
 returns : tie.Need-returns
 returns c =
     let b = c .before .before .before .before .before .before .before .before .before .before .before .before .before .before .before .before .before .before .before .before .before in
@@ -91,9 +79,9 @@ pub back-spec : {M : Type 1} → statement M
 back-spec =
     tie.close
     (tie.spec
-    sub-k
-    entry-at-requires
-    add-entry-at
+    (λ c. search needs)
+    (λ c κs. search needs)
+    (λ c. search needs)
     entry-at-requires-2
     add-entry-at-2
     entry-at-requires-3
@@ -104,5 +92,5 @@ back-spec =
     open-ranks-requires
     push-left-requires
     same-length
-    same-length-2
+    (λ c. search needs)
     returns)

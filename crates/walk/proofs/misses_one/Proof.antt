@@ -26,15 +26,6 @@ abbrev μ-loop : tie.MeasureT-loop
 loop-holds : tie.Need-loop-holds Inv-loop μ-loop
 loop-holds c = (omega arith, λ i x y. absurd (omega arith))
 
-sub-last : tie.Need-sub-last Inv-loop μ-loop
-sub-last c = search needs
-
-add-entry-at : tie.Need-add-entry-at Inv-loop μ-loop
-add-entry-at c = search needs
-
-entry-at-requires : tie.Need-entry-at-requires Inv-loop μ-loop
-entry-at-requires c κs = search needs
-
 joined-requires : tie.Need-joined-requires Inv-loop μ-loop
 joined-requires c κs =
     let b = c .before .before .before .before .before in
@@ -45,9 +36,6 @@ returns : tie.Need-returns Inv-loop μ-loop
 returns c =
     let l = c .before .before .before .before .loop in
     sym (any-found _ _ (l .j - 1) (omega arith) (read _ _ _ (c .before .before .entry-at .ensures) (c .before .joined .ensures) (c .if1 .taken)))
-
-loop-less : tie.Need-loop-less Inv-loop μ-loop
-loop-less c = search needs
 
 loop-again : tie.Need-loop-again Inv-loop μ-loop
 loop-again c =
@@ -64,11 +52,11 @@ misses-one-spec =
     Inv-loop
     μ-loop
     loop-holds
-    sub-last
-    add-entry-at
-    entry-at-requires
+    (λ c. search needs)
+    (λ c. search needs)
+    (λ c κs. search needs)
     joined-requires
     returns
-    loop-less
+    (λ c. search needs)
     loop-again
     returns-2)

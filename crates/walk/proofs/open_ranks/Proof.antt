@@ -21,12 +21,6 @@ loop-holds c = (omega arith, omega arith, cleared-none _ _)
 slice-write-position : tie.Need-slice-write-position Inv-loop μ-loop
 slice-write-position c = omega (arith, c .before .loop .inv .2 .same-length)
 
-add-i : tie.Need-add-i Inv-loop μ-loop
-add-i c = search needs
-
-loop-less : tie.Need-loop-less Inv-loop μ-loop
-loop-less c = search needs
-
 loop-again : tie.Need-loop-again Inv-loop μ-loop
 loop-again c =
     let l = c .before .loop in
@@ -49,8 +43,8 @@ open-ranks-spec =
     μ-loop
     loop-holds
     slice-write-position
-    add-i
-    loop-less
+    (λ c. search needs)
+    (λ c. search needs)
     loop-again
     same-length
     returns)

@@ -9,9 +9,6 @@ use borrow.Author.Needs.{needs}
 use Rattle.walk.proofs.push_taken.Statement.{statement}
 use Rattle.walk.proofs.push_taken.Tie as tie
 
-entry-at-requires : tie.Need-entry-at-requires
-entry-at-requires c κs = search needs
-
 add-entry-at : tie.Need-add-entry-at
 add-entry-at c =
     let q = c .before .before .before .before .pre in
@@ -32,18 +29,6 @@ misses-one-requires c κs =
       vertex = omega (arith, entry-below (q .0) _ (q .2), c .before .before .entry-at .ensures);
     }
 
-either-requires : tie.Need-either-requires
-either-requires c κs = search needs
-
-left-once-taken-requires : tie.Need-left-once-taken-requires
-left-once-taken-requires c κs = search needs
-
-cast-work : tie.Need-cast-work
-cast-work c = search needs
-
-mul-work : tie.Need-mul-work
-mul-work c = search needs
-
 slice-write-work : tie.Need-slice-write-work
 slice-write-work c =
     let q = c .before .before .before .before .before .before .before .before .before .before .before .before .pre in
@@ -54,22 +39,10 @@ cast-work-2 c =
     let q = c .before .before .before .before .before .before .before .before .before .before .before .before .pre in
     omega (arith, entry-below (q .0) _ (q .2), c .before .before .before .before .before .before .before .before .entry-at .ensures, q .0 .fits .small)
 
-add-work : tie.Need-add-work
-add-work c = search needs
-
-mul-work-2 : tie.Need-mul-work-2
-mul-work-2 c = search needs
-
 slice-write-work-2 : tie.Need-slice-write-work-2
 slice-write-work-2 c =
     let q = c .before .before .before .before .before .before .before .before .before .before .before .before .pre in
     simp length-set (omega (arith, q .2, q .1 .1 .taken-bound, enough (q .0) (q .1), c .before .before .left-once-taken .ensures .kept .length-kept))
-
-add-t12 : tie.Need-add-t12
-add-t12 c = search needs
-
-add-t20 : tie.Need-add-t20
-add-t20 c = search needs
 
 add-t22 : tie.Need-add-t22
 add-t22 c =
@@ -77,9 +50,6 @@ add-t22 c =
     let v = c .before .before .before .before .before .before .before .before .before .entry-at in
     let e = degree-read (q .0) _ (c .before .before .before .before .before .before .before .before .entry-at2 .ensures) (omega (arith, entry-below (q .0) _ (q .2), v .ensures, q .2)) in
     omega (arith, sum-small (q .0) (q .1 .1))
-
-same-length : tie.Need-same-length
-same-length c = search needs
 
 returns : tie.Need-returns
 returns c =
@@ -91,21 +61,21 @@ pub push-taken-spec : {M : Type 1} → statement M
 push-taken-spec =
     tie.close
     (tie.spec
-    entry-at-requires
+    (λ c κs. search needs)
     add-entry-at
     entry-at-requires-2
     misses-one-requires
-    either-requires
-    left-once-taken-requires
-    cast-work
-    mul-work
+    (λ c κs. search needs)
+    (λ c κs. search needs)
+    (λ c. search needs)
+    (λ c. search needs)
     slice-write-work
     cast-work-2
-    add-work
-    mul-work-2
+    (λ c. search needs)
+    (λ c. search needs)
     slice-write-work-2
-    add-t12
-    add-t20
+    (λ c. search needs)
+    (λ c. search needs)
     add-t22
-    same-length
+    (λ c. search needs)
     returns)

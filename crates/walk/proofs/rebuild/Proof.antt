@@ -25,9 +25,6 @@ loop-holds c =
     let size = table-size (b .args .n) (b .args .table .now) in
     (fresh-stands _ _ _ (omega (arith, b .pre .1)) (omega (arith, b .pre .2)), refl)
 
-shared-slice-read-mark : tie.Need-shared-slice-read-mark Inv-loop μ-loop
-shared-slice-read-mark c = search needs
-
 same-length : tie.Need-same-length Inv-loop μ-loop
 same-length c = c .before .before .before .before .loop .inv .1
 
@@ -83,7 +80,7 @@ rebuild-spec =
     Inv-loop
     μ-loop
     loop-holds
-    shared-slice-read-mark
+    (λ c. search needs)
     same-length
     returns
     push-requires

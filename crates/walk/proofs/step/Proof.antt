@@ -7,35 +7,17 @@ use borrow.Author.Needs.{needs}
 use Rattle.walk.proofs.step.Statement.{statement}
 use Rattle.walk.proofs.step.Tie as tie
 
-is-dead-requires : tie.Need-is-dead-requires
-is-dead-requires c κs = search needs
-
 back-requires : tie.Need-back-requires
 back-requires c κs =
     let W = c .before .before .before .before .before .before .before .before .pre .0 in
     let e = sym (c .before .before .before .is-dead .ensures _ _ _ (W .stands)) ∙ c .before .before .if1 .taken in
     (W .ranked, W .stands, dead-taken W e, passes-calm W)
 
-same-length : tie.Need-same-length
-same-length c = search needs
-
-same-length-2 : tie.Need-same-length-2
-same-length-2 c = search needs
-
 returns : tie.Need-returns
 returns c =
     let W = c .before .before .before .before .before .before .before .before .before .before .before .before .before .pre .0 in
     let e = sym (c .before .before .before .before .before .before .before .before .is-dead .ensures _ _ _ (W .stands)) ∙ c .before .before .before .before .before .before .before .if1 .taken in
     stepped-dead W e (c .before .before .before .before .back .ensures)
-
-take-requires : tie.Need-take-requires
-take-requires c κs = search needs
-
-same-length-3 : tie.Need-same-length-3
-same-length-3 c = search needs
-
-same-length-4 : tie.Need-same-length-4
-same-length-4 c = search needs
 
 returns-2 : tie.Need-returns-2
 returns-2 c =
@@ -49,12 +31,6 @@ back-requires-2 c κs =
     let W = b .pre .0 in
     (W .ranked, W .stands, decided-taken W (b .pre .1) (omega arith), passes-calm W)
 
-same-length-5 : tie.Need-same-length-5
-same-length-5 c = search needs
-
-same-length-6 : tie.Need-same-length-6
-same-length-6 c = search needs
-
 returns-3 : tie.Need-returns-3
 returns-3 c =
     let W = c .before .before .before .before .before .before .before .before .before .before .before .before .before .before .pre .0 in
@@ -64,16 +40,16 @@ pub step-spec : {M : Type 1} → statement M
 step-spec =
     tie.close
     (tie.spec
-    is-dead-requires
+    (λ c κs. search needs)
     back-requires
-    same-length
-    same-length-2
+    (λ c. search needs)
+    (λ c. search needs)
     returns
-    take-requires
-    same-length-3
-    same-length-4
+    (λ c κs. search needs)
+    (λ c. search needs)
+    (λ c. search needs)
     returns-2
     back-requires-2
-    same-length-5
-    same-length-6
+    (λ c. search needs)
+    (λ c. search needs)
     returns-3)

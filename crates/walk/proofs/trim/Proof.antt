@@ -21,25 +21,10 @@ returns c = record { none = λ e. refl; fewer = omega arith; dropped = λ h. abs
 loop-holds : tie.Need-loop-holds Inv-loop μ-loop
 loop-holds c = (omega arith, λ j a b. absurd (omega arith))
 
-sub-last : tie.Need-sub-last Inv-loop μ-loop
-sub-last c = search needs
-
-mul-entry-at : tie.Need-mul-entry-at Inv-loop μ-loop
-mul-entry-at c = search needs
-
-add-entry-at : tie.Need-add-entry-at Inv-loop μ-loop
-add-entry-at c = search needs
-
-entry-at-requires : tie.Need-entry-at-requires Inv-loop μ-loop
-entry-at-requires c κs = search needs
-
 returns-2 : tie.Need-returns-2 Inv-loop μ-loop
 returns-2 c =
     let l = c .before .before .before .loop in
     record { none = λ e. absurd (omega arith); fewer = l .inv .0; dropped = λ h. l .inv .1; last-kept = λ h. omega (arith, c .before .entry-at .ensures) }
-
-loop-less : tie.Need-loop-less Inv-loop μ-loop
-loop-less c = search needs
 
 loop-again : tie.Need-loop-again Inv-loop μ-loop
 loop-again c =
@@ -59,11 +44,11 @@ trim-spec =
     μ-loop
     returns
     loop-holds
-    sub-last
-    mul-entry-at
-    add-entry-at
-    entry-at-requires
+    (λ c. search needs)
+    (λ c. search needs)
+    (λ c. search needs)
+    (λ c κs. search needs)
     returns-2
-    loop-less
+    (λ c. search needs)
     loop-again
     returns-3)

@@ -8,33 +8,6 @@ use borrow.Author.Needs.{needs}
 use Rattle.cli.proofs.program.answer.Statement.{statement}
 use Rattle.cli.proofs.program.answer.Tie as tie
 
-slice-aggregate-read-full : tie.Need-slice-aggregate-read-full
-slice-aggregate-read-full c = search needs
-
-read-full-requires : tie.Need-read-full-requires
-read-full-requires c κs = search needs
-
-array-share-prefix-text : tie.Need-array-share-prefix-text
-array-share-prefix-text c = search needs
-
-slice-aggregate-judge : tie.Need-slice-aggregate-judge
-slice-aggregate-judge c = search needs
-
-slice-aggregate-judge-2 : tie.Need-slice-aggregate-judge-2
-slice-aggregate-judge-2 c = search needs
-
-judge-requires : tie.Need-judge-requires
-judge-requires c κs = search needs
-
-enum-known-number : tie.Need-enum-known-number
-enum-known-number c = search needs
-
-refuse-requires : tie.Need-refuse-requires
-refuse-requires c κs = search needs
-
-enum-known-n : tie.Need-enum-known-n
-enum-known-n c = search needs
-
 mul-table : tie.Need-mul-table
 mul-table c =
     let f = graph-fine (c .before .n .given .1) (c .before .before .before .before .judge .ensures) in
@@ -53,9 +26,6 @@ list-requires c κs =
     let f = graph-fine (c .before .before .n .given .1) (c .before .before .before .before .before .judge .ensures) in
     record { few = f .0; table = f .2; settings = c .before .before .before .before .before .before .before .before .before .before .before .pre }
 
-returns : tie.Need-returns
-returns c = search needs
-
 returns-2 : tie.Need-returns-2
 returns-2 c = search needs
 
@@ -63,18 +33,18 @@ pub answer-spec : {M : Type 1} → statement M
 answer-spec =
     tie.close
     (tie.spec
-    slice-aggregate-read-full
-    read-full-requires
-    array-share-prefix-text
-    slice-aggregate-judge
-    slice-aggregate-judge-2
-    judge-requires
-    enum-known-number
-    refuse-requires
-    enum-known-n
+    (λ c. search needs)
+    (λ c κs. search needs)
+    (λ c. search needs)
+    (λ c. search needs)
+    (λ c. search needs)
+    (λ c κs. search needs)
+    (λ c. search needs)
+    (λ c κs. search needs)
+    (λ c. search needs)
     mul-table
     array-share-prefix-table
     slice-aggregate-list
     list-requires
-    returns
+    (λ c. search needs)
     returns-2)

@@ -8,17 +8,8 @@ use borrow.Author.Needs.{needs}
 use Rattle.cli.proofs.verdict.judge.Statement.{statement}
 use Rattle.cli.proofs.verdict.judge.Tie as tie
 
-text-too-long-requires : tie.Need-text-too-long-requires
-text-too-long-requires c κs = search needs
-
 returns : tie.Need-returns
 returns c = judged-long (sym (c .before .text-too-long .ensures) ∙ c .if1 .taken)
-
-read-text-requires : tie.Need-read-text-requires
-read-text-requires c κs = search needs
-
-same-length : tie.Need-same-length
-same-length c = search needs
 
 -- past the first test the text is not too long
 short : (c : tie.Else1) → ltb 65536 (length (c .before .before .before .before .args .text .now)) ≡ false
@@ -30,12 +21,6 @@ returns-2 c =
     let e = r .before .before in
     judged-refused _ (e .before .before .before .before .pre) (short e) (r .read-text .ensures) (c .if2 .taken)
 
-cast-t5 : tie.Need-cast-t5
-cast-t5 c = search needs
-
-same-length-2 : tie.Need-same-length-2
-same-length-2 c = search needs
-
 returns-3 : tie.Need-returns-3
 returns-3 c =
     let r = c .before .before .before .before .before in
@@ -46,11 +31,11 @@ pub judge-spec : {M : Type 1} → statement M
 judge-spec =
     tie.close
     (tie.spec
-    text-too-long-requires
+    (λ c κs. search needs)
     returns
-    read-text-requires
-    same-length
+    (λ c κs. search needs)
+    (λ c. search needs)
     returns-2
-    cast-t5
-    same-length-2
+    (λ c. search needs)
+    (λ c. search needs)
     returns-3)

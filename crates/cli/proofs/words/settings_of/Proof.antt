@@ -22,40 +22,13 @@ factor-read c = read-as (c .factor .given .1) (c .before .before .number3 .ensur
 returns : tie.Need-returns
 returns c = read-count (c .if1 .taken)
 
-number-requires : tie.Need-number-requires
-number-requires c κs = search needs
-
-enum-known-notion : tie.Need-enum-known-notion
-enum-known-notion c = search needs
-
-enum-told : tie.Need-enum-told
-enum-told c = search needs
-
 returns-2 : tie.Need-returns-2
 returns-2 c = read-first (c .before .before .before .if1 .left) (read-as (c .enum-told .given .1) (c .before .before .number .ensures) .value)
-
-number-requires-2 : tie.Need-number-requires-2
-number-requires-2 c κs = search needs
-
-enum-known-kind : tie.Need-enum-known-kind
-enum-known-kind c = search needs
-
-enum-told-2 : tie.Need-enum-told-2
-enum-told-2 c = search needs
 
 returns-3 : tie.Need-returns-3
 returns-3 c =
     let x = c .before .before .before .before in
     read-second (x .before .before .before .if1 .left) (notion-read x .value) (read-as (c .enum-told2 .given .1) (c .before .before .number2 .ensures) .value)
-
-number-requires-3 : tie.Need-number-requires-3
-number-requires-3 c κs = search needs
-
-enum-known-factor : tie.Need-enum-known-factor
-enum-known-factor c = search needs
-
-enum-told-3 : tie.Need-enum-told-3
-enum-told-3 c = search needs
 
 returns-4 : tie.Need-returns-4
 returns-4 c =
@@ -71,9 +44,6 @@ cast-t15 c = omega (arith, kind-read (c .before .before .before .before .before)
 
 cast-t16 : tie.Need-cast-t16
 cast-t16 c = omega (arith, factor-read (c .before) .small)
-
-settings-refusal-requires : tie.Need-settings-refusal-requires
-settings-refusal-requires c κs = search needs
 
 returns-5 : tie.Need-returns-5
 returns-5 c =
@@ -94,21 +64,21 @@ settings-of-spec =
     tie.close
     (tie.spec
     returns
-    number-requires
-    enum-known-notion
-    enum-told
+    (λ c κs. search needs)
+    (λ c. search needs)
+    (λ c. search needs)
     returns-2
-    number-requires-2
-    enum-known-kind
-    enum-told-2
+    (λ c κs. search needs)
+    (λ c. search needs)
+    (λ c. search needs)
     returns-3
-    number-requires-3
-    enum-known-factor
-    enum-told-3
+    (λ c κs. search needs)
+    (λ c. search needs)
+    (λ c. search needs)
     returns-4
     cast-t14
     cast-t15
     cast-t16
-    settings-refusal-requires
+    (λ c κs. search needs)
     returns-5
     returns-6)

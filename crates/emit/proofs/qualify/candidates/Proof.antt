@@ -5,15 +5,15 @@ use mathlib.Core.Logic.{⊎-elim}
 use native.Mathlib.Omega.{arith}
 use Prim.Native.Nat.{_+_, _-_, _*_, _≤_}
 use borrow.Author.Needs.{needs}
-use Rattle.theory.specs.Parts.{Listed}
-use Rattle.theory.proofs.basics.Parts.{listed-same}
+use Rattle.theory.specs.Parts.{Filled}
+use Rattle.theory.proofs.basics.Parts.{filled-same}
 use Rattle.emit.proofs.Candidates.{sifted, sifted-none, sifted-hit, sifted-miss, sifted-all, rank-small, vertex-small, members-vertices}
 use Rattle.emit.proofs.qualify.candidates.Statement.{statement}
 use Rattle.emit.proofs.qualify.candidates.Tie as tie
 
 abbrev Inv-loop : tie.InvT-loop
 Inv-loop table ranks work₀ n taken left end m₀ j₀ work m j =
-    (m ≤ j) × (j ≤ left) × Listed (3 * n) (3 * n + n) (sifted n table work₀ taken left j) work₀ work m
+    (m ≤ j) × (j ≤ left) × Filled (3 * n) (3 * n + n) (sifted n table work₀ taken left j) work₀ work m
 
 abbrev μ-loop : tie.MeasureT-loop
 μ-loop table ranks work₀ n taken left end m₀ j₀ work m j = left - j
@@ -63,8 +63,8 @@ loop-again c =
     let h = c .before .before .before .before .before .loop-test .taken in
     let e = c .before .joined-to-all .ensures in
     ⊎-elim
-    (λ w. let m = w .2 in (omega arith, omega arith, listed-same (w .1) m (sifted-hit p (v .2) h (v .0) (sym (w .0 .taken) ∙ e))))
-    (λ w. let m = w .2 in (omega arith, omega arith, listed-same (w .1) m (sifted-miss p (v .2) h (sym (w .0 .left) ∙ e))))
+    (λ w. let m = w .2 in (omega arith, omega arith, filled-same (w .1) m (sifted-hit p (v .2) h (v .0) (sym (w .0 .taken) ∙ e))))
+    (λ w. let m = w .2 in (omega arith, omega arith, filled-same (w .1) m (sifted-miss p (v .2) h (sym (w .0 .left) ∙ e))))
     (c .if1 .came)
 
 same-length : tie.Need-same-length Inv-loop μ-loop
