@@ -34,13 +34,4 @@ returns-3 c =
 pub finish-spec : {M : Type 1} → statement M
 finish-spec =
     tie.close
-    (tie.spec
-    refuse-requires
-    (λ c. search needs)
-    returns
-    refuse-requires-2
-    (λ c. search needs)
-    returns-2
-    cast-t9
-    cast-t10
-    returns-3)
+    (tie.spec refuse-requires (λ c. search needs) returns refuse-requires-2 (λ c. search needs) returns-2 cast-t9 cast-t10 returns-3)

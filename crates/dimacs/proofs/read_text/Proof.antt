@@ -86,24 +86,6 @@ returns-2 c =
 pub read-text-spec : {M : Type 1} → statement M
 read-text-spec =
     tie.close
-    (tie.spec
-    Inv-loop
-    μ-loop
-    loop-holds
-    (λ c κs. search needs)
-    (λ c. search needs)
-    part-read-line-start
-    part-read-line-end
-    read-line-requires
-    (λ c. search needs)
-    refuse-requires
-    same-length
-    returns
-    (λ c. search needs)
-    add-at
-    add-line
-    loop-less
-    loop-again
-    finish-requires
-    same-length-2
+    (tie.spec Inv-loop μ-loop loop-holds (λ c κs. search needs) (λ c. search needs) part-read-line-start part-read-line-end read-line-requires
+    (λ c. search needs) refuse-requires same-length returns (λ c. search needs) add-at add-line loop-less loop-again finish-requires same-length-2
     returns-2)

@@ -30,14 +30,5 @@ returns-3 c =
 pub hopeless-spec : {M : Type 1} → statement M
 hopeless-spec =
     tie.close
-    (tie.spec
-    (λ c. search needs)
-    (λ c κs. search needs)
-    returns
-    mul-less
-    (λ c κs. search needs)
-    (λ c κs. search needs)
-    returns-2
-    (λ c κs. search needs)
-    (λ c κs. search needs)
-    returns-3)
+    (tie.spec (λ c. search needs) (λ c κs. search needs) returns mul-less (λ c κs. search needs) (λ c κs. search needs) returns-2 (λ c κs. search needs)
+    (λ c κs. search needs) returns-3)

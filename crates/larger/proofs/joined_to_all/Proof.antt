@@ -60,16 +60,5 @@ returns-2 c =
 pub joined-to-all-spec : {M : Type 1} → statement M
 joined-to-all-spec =
     tie.close
-    (tie.spec
-    Inv-loop
-    μ-loop
-    loop-holds
-    (λ c. search needs)
-    (λ c. search needs)
-    cast-u
-    joined-requires
-    returns
-    (λ c. search needs)
-    (λ c. search needs)
-    loop-again
-    returns-2)
+    (tie.spec Inv-loop μ-loop loop-holds (λ c. search needs) (λ c. search needs) cast-u joined-requires returns (λ c. search needs) (λ c. search needs)
+    loop-again returns-2)

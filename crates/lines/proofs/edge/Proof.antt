@@ -116,22 +116,5 @@ returns-7 c =
 pub edge-spec : {M : Type 1} → statement M
 edge-spec =
     tie.close
-    (tie.spec
-    returns
-    (λ c. search needs)
-    returns-2
-    returns-3
-    (λ c. search needs)
-    returns-4
-    returns-5
-    mul-there
-    add-there
-    slice-read-if6
-    returns-6
-    mul-back
-    add-back
-    slice-write-table
-    slice-write-table-2
-    add-t11
-    same-length
-    returns-7)
+    (tie.spec returns (λ c. search needs) returns-2 returns-3 (λ c. search needs) returns-4 returns-5 mul-there add-there slice-read-if6 returns-6 mul-back
+    add-back slice-write-table slice-write-table-2 add-t11 same-length returns-7)

@@ -56,17 +56,5 @@ returns-4 c = faulty (pair-as (c .enum-told .given .1) (c .before .before .two-n
 pub edge-line-spec : {M : Type 1} → statement M
 edge-line-spec =
     tie.close
-    (tie.spec
-    (λ c κs. tt)
-    returns
-    returns-2
-    sub-two-numbers
-    part-two-numbers-start
-    (λ c. search needs)
-    (λ c κs. tt)
-    (λ c. search needs)
-    edge-requires
-    (λ c. search needs)
-    (λ c. search needs)
-    returns-3
-    returns-4)
+    (tie.spec (λ c κs. tt) returns returns-2 sub-two-numbers part-two-numbers-start (λ c. search needs) (λ c κs. tt) (λ c. search needs) edge-requires
+    (λ c. search needs) (λ c. search needs) returns-3 returns-4)

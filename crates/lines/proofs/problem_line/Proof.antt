@@ -82,23 +82,5 @@ returns-7 c = faulty (pair-as (c .enum-told .given .1) (c .before .before .two-n
 pub problem-line-spec : {M : Type 1} → statement M
 problem-line-spec =
     tie.close
-    (tie.spec
-    (λ c κs. tt)
-    returns
-    (λ c. search needs)
-    (λ c κs. tt)
-    returns-2
-    returns-3
-    returns-4
-    (λ c. search needs)
-    returns-5
-    (λ c. search needs)
-    (λ c. search needs)
-    (λ c. search needs)
-    (λ c κs. tt)
-    (λ c. search needs)
-    problem-requires
-    (λ c. search needs)
-    (λ c. search needs)
-    returns-6
-    returns-7)
+    (tie.spec (λ c κs. tt) returns (λ c. search needs) (λ c κs. tt) returns-2 returns-3 returns-4 (λ c. search needs) returns-5 (λ c. search needs)
+    (λ c. search needs) (λ c. search needs) (λ c κs. tt) (λ c. search needs) problem-requires (λ c. search needs) (λ c. search needs) returns-6 returns-7)

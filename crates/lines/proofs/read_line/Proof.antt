@@ -47,16 +47,5 @@ returns-6 c =
 pub read-line-spec : {M : Type 1} → statement M
 read-line-spec =
     tie.close
-    (tie.spec
-    returns
-    (λ c. search needs)
-    (λ c κs. tt)
-    problem-line-requires
-    edge-line-requires
-    returns-2
-    returns-3
-    (λ c. search needs)
-    (λ c. search needs)
-    (λ c. search needs)
-    (λ c. search needs)
-    returns-6)
+    (tie.spec returns (λ c. search needs) (λ c κs. tt) problem-line-requires edge-line-requires returns-2 returns-3 (λ c. search needs) (λ c. search needs)
+    (λ c. search needs) (λ c. search needs) returns-6)

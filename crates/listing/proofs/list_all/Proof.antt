@@ -59,18 +59,5 @@ loop-again c =
 pub list-all-spec : {M : Type 1} → statement M
 list-all-spec =
     tie.close
-    (tie.spec
-    Inv-loop
-    μ-loop
-    loop-holds
-    (λ c κs. search needs)
-    write-first-requires
-    (λ c κs. search needs)
-    (λ c κs. search needs)
-    (λ c. search needs)
-    (λ c. search needs)
-    (λ c. search needs)
-    (λ c. search needs)
-    returns
-    loop-less
-    loop-again)
+    (tie.spec Inv-loop μ-loop loop-holds (λ c κs. search needs) write-first-requires (λ c κs. search needs) (λ c κs. search needs) (λ c. search needs)
+    (λ c. search needs) (λ c. search needs) (λ c. search needs) returns loop-less loop-again)

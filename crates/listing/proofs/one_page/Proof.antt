@@ -41,13 +41,5 @@ returns c =
 pub one-page-spec : {M : Type 1} → statement M
 one-page-spec =
     tie.close
-    (tie.spec
-    (λ c κs. search needs)
-    slice-reshare-prefix-print-entries
-    slice-aggregate-print-entries
-    print-entries-requires
-    (λ c. search needs)
-    (λ c. search needs)
-    (λ c. search needs)
-    (λ c. search needs)
-    returns)
+    (tie.spec (λ c κs. search needs) slice-reshare-prefix-print-entries slice-aggregate-print-entries print-entries-requires (λ c. search needs)
+    (λ c. search needs) (λ c. search needs) (λ c. search needs) returns)

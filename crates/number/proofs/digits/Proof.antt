@@ -68,17 +68,5 @@ returns-3 c =
 pub digits-spec : {M : Type 1} → statement M
 digits-spec =
     tie.close
-    (tie.spec
-    Inv-loop
-    μ-loop
-    loop-holds
-    (λ c. search needs)
-    mul-value
-    (λ c κs. search needs)
-    add-value
-    returns
-    returns-2
-    (λ c. search needs)
-    (λ c. search needs)
-    loop-again
-    returns-3)
+    (tie.spec Inv-loop μ-loop loop-holds (λ c. search needs) mul-value (λ c κs. search needs) add-value returns returns-2 (λ c. search needs)
+    (λ c. search needs) loop-again returns-3)

@@ -35,13 +35,4 @@ returns-7 c = record { value = number-spoilt _ (digit-above _ 0 (omega arith) (c
 pub number-spec : {M : Type 1} → statement M
 number-spec =
     tie.close
-    (tie.spec
-    returns
-    returns-2
-    (λ c. search needs)
-    digits-requires
-    returns-3
-    returns-4
-    returns-5
-    returns-6
-    returns-7)
+    (tie.spec returns returns-2 (λ c. search needs) digits-requires returns-3 returns-4 returns-5 returns-6 returns-7)

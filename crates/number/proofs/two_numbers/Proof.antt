@@ -48,20 +48,5 @@ returns-4 c =
 pub two-numbers-spec : {M : Type 1} → statement M
 two-numbers-spec =
     tie.close
-    (tie.spec
-    (λ c κs. search needs)
-    returns
-    slice-aggregate-number
-    (λ c κs. tt)
-    (λ c. search needs)
-    (λ c. search needs)
-    returns-2
-    (λ c. search needs)
-    (λ c. search needs)
-    (λ c. search needs)
-    (λ c. search needs)
-    (λ c κs. tt)
-    (λ c. search needs)
-    (λ c. search needs)
-    returns-3
-    returns-4)
+    (tie.spec (λ c κs. search needs) returns slice-aggregate-number (λ c κs. tt) (λ c. search needs) (λ c. search needs) returns-2 (λ c. search needs)
+    (λ c. search needs) (λ c. search needs) (λ c. search needs) (λ c κs. tt) (λ c. search needs) (λ c. search needs) returns-3 returns-4)

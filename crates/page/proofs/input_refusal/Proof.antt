@@ -41,12 +41,4 @@ returns-5 c =
 pub input-refusal-spec : {M : Type 1} → statement M
 input-refusal-spec =
     tie.close
-    (tie.spec
-    (λ c κs. search needs)
-    returns
-    (λ c κs. search needs)
-    returns-2
-    returns-3
-    mul-if4
-    returns-4
-    returns-5)
+    (tie.spec (λ c κs. search needs) returns (λ c κs. search needs) returns-2 returns-3 mul-if4 returns-4 returns-5)

@@ -67,25 +67,6 @@ returns-3 c =
 pub page-spec : {M : Type 1} → statement M
 page-spec =
     tie.close
-    (tie.spec
-    (λ c κs. tt)
-    (λ c κs. tt)
-    (λ c. refl)
-    (λ c. refl)
-    returns
-    (λ c. refl)
-    prepare-requires
-    (λ c. search needs)
-    position-refusal-requires
-    (λ c κs. tt)
-    (λ c. refl)
-    (λ c. refl)
-    returns-2
-    (λ c. search needs)
-    rebuild-requires
-    (λ c. search needs)
-    run-requires
-    (λ c. search needs)
-    (λ c. search needs)
-    (λ c. search needs)
-    returns-3)
+    (tie.spec (λ c κs. tt) (λ c κs. tt) (λ c. refl) (λ c. refl) returns (λ c. refl) prepare-requires (λ c. search needs) position-refusal-requires
+    (λ c κs. tt) (λ c. refl) (λ c. refl) returns-2 (λ c. search needs) rebuild-requires (λ c. search needs) run-requires (λ c. search needs)
+    (λ c. search needs) (λ c. search needs) returns-3)

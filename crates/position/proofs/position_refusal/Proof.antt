@@ -49,15 +49,5 @@ returns-5 c s f =
 pub position-refusal-spec : {M : Type 1} → statement M
 position-refusal-spec =
     tie.close
-    (tie.spec
-    (λ c κs. search needs)
-    returns
-    (λ c κs. search needs)
-    returns-2
-    (λ c κs. search needs)
-    returns-3
-    (λ c. search needs)
-    slice-aggregate-is-dead
-    is-dead-requires
-    returns-4
-    returns-5)
+    (tie.spec (λ c κs. search needs) returns (λ c κs. search needs) returns-2 (λ c κs. search needs) returns-3 (λ c. search needs) slice-aggregate-is-dead
+    is-dead-requires returns-4 returns-5)

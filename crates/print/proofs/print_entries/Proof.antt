@@ -39,15 +39,5 @@ returns c =
 pub print-entries-spec : {M : Type 1} → statement M
 print-entries-spec =
     tie.close
-    (tie.spec
-    Inv-loop
-    μ-loop
-    loop-holds
-    (λ c. search needs)
-    (λ c. search needs)
-    put-entry-requires
-    (λ c. search needs)
-    (λ c. search needs)
-    loop-again
-    same-length
-    returns)
+    (tie.spec Inv-loop μ-loop loop-holds (λ c. search needs) (λ c. search needs) put-entry-requires (λ c. search needs) (λ c. search needs) loop-again
+    same-length returns)

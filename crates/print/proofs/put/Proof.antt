@@ -39,16 +39,5 @@ returns c = puts-word (c .before .before .args .word .now) (c .before .loop .i) 
 pub put-spec : {M : Type 1} → statement M
 put-spec =
     tie.close
-    (tie.spec
-    Inv-loop
-    μ-loop
-    loop-holds
-    (λ c. search needs)
-    (λ c. search needs)
-    slice-write-bytes
-    (λ c. search needs)
-    (λ c. search needs)
-    loop-again
-    (λ c. search needs)
-    same-length
-    returns)
+    (tie.spec Inv-loop μ-loop loop-holds (λ c. search needs) (λ c. search needs) slice-write-bytes (λ c. search needs) (λ c. search needs) loop-again
+    (λ c. search needs) same-length returns)

@@ -25,17 +25,5 @@ returns-3 c =
 pub put-entry-spec : {M : Type 1} → statement M
 put-entry-spec =
     tie.close
-    (tie.spec
-    (λ c. search needs)
-    (λ c. search needs)
-    (λ c. search needs)
-    returns
-    returns-2
-    (λ c. search needs)
-    put-number-requires
-    (λ c κs. search needs)
-    slice-write-bytes-2
-    (λ c. search needs)
-    (λ c. search needs)
-    (λ c. search needs)
-    returns-3)
+    (tie.spec (λ c. search needs) (λ c. search needs) (λ c. search needs) returns returns-2 (λ c. search needs) put-number-requires (λ c κs. search needs)
+    slice-write-bytes-2 (λ c. search needs) (λ c. search needs) (λ c. search needs) returns-3)

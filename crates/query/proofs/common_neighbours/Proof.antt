@@ -48,20 +48,5 @@ returns c = (filled-pass _ _ _ (c .before .loop .inv .2) _ (passing-end _ _ _ (o
 pub common-neighbours-spec : {M : Type 1} → statement M
 common-neighbours-spec =
     tie.close
-    (tie.spec
-    Inv-loop
-    μ-loop
-    (λ c. omega arith)
-    loop-holds
-    joined-to-all-requires
-    (λ c. omega arith)
-    (λ c. omega arith)
-    (λ c. omega arith)
-    (λ c. omega arith)
-    (λ c. omega arith)
-    (λ c. omega arith)
-    (λ c. omega arith)
-    (λ c. omega arith)
-    loop-again
-    same-length
-    returns)
+    (tie.spec Inv-loop μ-loop (λ c. omega arith) loop-holds joined-to-all-requires (λ c. omega arith) (λ c. omega arith) (λ c. omega arith)
+    (λ c. omega arith) (λ c. omega arith) (λ c. omega arith) (λ c. omega arith) (λ c. omega arith) loop-again same-length returns)

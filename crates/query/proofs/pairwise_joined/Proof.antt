@@ -60,17 +60,5 @@ returns-2 c =
 pub pairwise-joined-spec : {M : Type 1} → statement M
 pairwise-joined-spec =
     tie.close
-    (tie.spec
-    Inv-loop
-    μ-loop
-    loop-holds
-    (λ c. omega arith)
-    (λ c. omega arith)
-    (λ c. omega arith)
-    cast-v
-    joined-to-all-requires
-    returns
-    (λ c. omega arith)
-    (λ c. omega arith)
-    loop-again
-    returns-2)
+    (tie.spec Inv-loop μ-loop loop-holds (λ c. omega arith) (λ c. omega arith) (λ c. omega arith) cast-v joined-to-all-requires returns (λ c. omega arith)
+    (λ c. omega arith) loop-again returns-2)

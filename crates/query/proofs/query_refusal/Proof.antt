@@ -54,14 +54,4 @@ returns-6 c = later (c .before .before .before .before) false false false (ap no
 pub query-refusal-spec : {M : Type 1} → statement M
 query-refusal-spec =
     tie.close
-    (tie.spec
-    (λ c κs. search needs)
-    returns
-    (λ c κs. search needs)
-    returns-2
-    mul-wanted
-    returns-3
-    returns-4
-    (λ c κs. search needs)
-    returns-5
-    returns-6)
+    (tie.spec (λ c κs. search needs) returns (λ c κs. search needs) returns-2 mul-wanted returns-3 returns-4 (λ c κs. search needs) returns-5 returns-6)

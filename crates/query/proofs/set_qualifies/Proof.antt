@@ -86,18 +86,5 @@ returns-4 c =
 pub set-qualifies-spec : {M : Type 1} → statement M
 set-qualifies-spec =
     tie.close
-    (tie.spec
-    members-of-requires
-    same-length
-    returns
-    pairwise-joined-requires
-    same-length-2
-    returns-2
-    tally-of-requires
-    isolated-by-requires
-    same-length-3
-    returns-3
-    common-neighbours-requires
-    beaten-requires
-    same-length-4
-    returns-4)
+    (tie.spec members-of-requires same-length returns pairwise-joined-requires same-length-2 returns-2 tally-of-requires isolated-by-requires same-length-3
+    returns-3 common-neighbours-requires beaten-requires same-length-4 returns-4)

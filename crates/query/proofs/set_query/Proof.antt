@@ -57,14 +57,5 @@ returns-3 c = answer-decided (accepted (c .before .before .before .before .befor
 pub set-query-spec : {M : Type 1} → statement M
 set-query-spec =
     tie.close
-    (tie.spec
-    (λ c κs. search needs)
-    returns
-    (λ c. refl)
-    fill-degrees-requires
-    slice-aggregate-set-qualifies
-    set-qualifies-requires
-    same-length
-    returns-2
-    same-length-2
-    returns-3)
+    (tie.spec (λ c κs. search needs) returns (λ c. refl) fill-degrees-requires slice-aggregate-set-qualifies set-qualifies-requires same-length returns-2
+    same-length-2 returns-3)

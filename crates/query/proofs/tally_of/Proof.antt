@@ -68,20 +68,5 @@ returns c =
 pub tally-of-spec : {M : Type 1} → statement M
 tally-of-spec =
     tie.close
-    (tie.spec
-    Inv-loop
-    μ-loop
-    loop-holds
-    (λ c. omega arith)
-    (λ c. omega arith)
-    (λ c. omega arith)
-    cast-v
-    add-d
-    mul-d
-    shared-slice-read-d
-    cast-d
-    with-member-requires
-    (λ c. omega arith)
-    (λ c. omega arith)
-    loop-again
-    returns)
+    (tie.spec Inv-loop μ-loop loop-holds (λ c. omega arith) (λ c. omega arith) (λ c. omega arith) cast-v add-d mul-d shared-slice-read-d cast-d
+    with-member-requires (λ c. omega arith) (λ c. omega arith) loop-again returns)

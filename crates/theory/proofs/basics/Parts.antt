@@ -31,11 +31,6 @@ part-same w w₀ a k e f = ext-getD 0 (part w a k) (part w₀ a k) (size w ∙ a
 pub part-push : (w : List ℕ) (a k v : ℕ) → a + k < length w → part (set w (a + k) v) a (k + 1) ≡ part w a k ++ (v ∷ [])
 part-push w a k v h = rw (add-one, drop-set-add, take-suc-set (drop a w) k v (simp length-drop (omega arith)))
 
-pub part-first : (w : List ℕ) (a v : ℕ) → a < length w → part (set w a v) a 1 ≡ v ∷ []
-part-first w a v h =
-    let z : a + 0 ≡ a = omega arith in
-    ap (λ (i : ℕ). part (set w i v) a 1) (sym z) ∙ part-push w a 0 v (omega arith)
-
 -- a store before the part leaves it
 pub part-before : (w : List ℕ) (a k i v : ℕ) → i < a → part (set w i v) a k ≡ part w a k
 part-before w a k i v h = ap (take k) (drop-set-lt a w i v h)

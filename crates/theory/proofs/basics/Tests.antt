@@ -258,12 +258,6 @@ any-same n p q e =
     (λ r. (r .0, r .1, sym (e (r .0) (r .1)) ∙ r .2))
     (λ r. (r .0, r .1, e (r .0) (r .1) ∙ r .2))
 
-pub all-same : (n : ℕ) (p q : ℕ → Bool) → ((i : ℕ) → i < n → p i ≡ q i) → all n p ≡ all n q
-all-same n p q e =
-    test-agree (test-all n p (λ i. test-self)) (test-all n q (λ i. test-self))
-    (λ f i h. sym (e i h) ∙ f i h)
-    (λ f i h. e i h ∙ f i h)
-
 -- one less than the next number
 pub suc-less : (k : ℕ) → suc k - 1 ≡ k
 suc-less k = omega arith

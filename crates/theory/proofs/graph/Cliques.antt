@@ -14,7 +14,7 @@ use Rattle.model.specs.Groups.{Factor, VertexSet, sizeOf, outside, outgoing, wi
 use Rattle.model.specs.Meaning.{In, Under, Clique, Isolated, Larger}
 use Rattle.theory.specs.Search.{Loopless, Symmetric, JoinsAll, common, Common}
 use Rattle.theory.proofs.basics.Tests.{Test, test-and, test-or, test-implies, test-self, test-fails, test-eq, test-all, trichotomy, fails, count-same}
-use Rattle.theory.proofs.basics.Counting.{count-remove, count-split, count-sub}
+use Rattle.theory.proofs.basics.Counting.{count-remove, count-split}
 use Rattle.theory.proofs.graph.Ranks.{rank-degree}
 use Rattle.theory.proofs.graph.Factor.{under-sum}
 
@@ -135,13 +135,3 @@ module _ (G : Graph) (S : VertexSet) where
     -- and so it is a common neighbour
     pub further-common : common G S w ≡ true
     further-common = common-test w (h .0) .1 (record { vertex = h .0; beyond = new; joins = further-joins })
-
-  module _ (symmetric : Symmetric G) where
-    -- a common neighbour is an outside neighbour of each member
-    pub common-outside : (u : ℕ) → In G S u → count (G .size) (common G S) ≤ outside G S u
-    unfolding outside
-    common-outside u h =
-        count-sub (G .size) (common G S) (λ v. G .joined u v && not (S v))
-        (λ v l e.
-        let r = common-test v l .0 e in
-        test-and {a = G .joined u v} test-self test-fails .1 (symmetric u v (h .0) l ∙ r .joins u h, r .beyond))

@@ -13,9 +13,9 @@ use borrow.Author.Tests.{lt-ltb, le-ltb}
 use Rattle.model.specs.Compute.{compute}
 use Rattle.model.specs.Graph.{Graph, byTable}
 use Rattle.model.specs.Groups.{Settings}
-use Rattle.model.specs.Walk.{Position, fresh, after, records, fullSets, fullList}
+use Rattle.model.specs.Walk.{Position, fresh, records, fullSets, fullList}
 use Rattle.model.specs.Listing.{recordOf, rules}
-use Rattle.model.specs.Calls.{refuseTable, refuseSettings, refusePage, PageReply}
+use Rattle.model.specs.Calls.{refuseTable, refuseSettings, PageReply}
 use Rattle.model.specs.Demand.{allSteps, allGroups, SomeFinished, Demand3}
 use Rattle.model.specs.Text.{numberOf, TextReply}
 use Rattle.model.specs.Program.{Words, wrong, chosen, Verdict, refusal, listing, bounded, three, settingsOfWords, groupLines, held, endLine, refusedLine, reading, byReading, byWords, programVerdict, PrintsAt, Prints}
@@ -24,7 +24,6 @@ use Rattle.theory.specs.Printed.{printed, printedPages}
 use Rattle.theory.proofs.walk.Ends.{walk-ends, length-once}
 use Rattle.theory.proofs.walk.Walk.{records-append}
 use Rattle.theory.proofs.calls.Pages.{chain-demand, table-lawful}
-use Rattle.theory.proofs.calls.Next.{walk-page-accepted}
 use Rattle.theory.proofs.program.Printed.{list-printed, pages-printed}
 use Rattle.theory.proofs.text.EdgeTextGraph.{read-table-accepted}
 
@@ -163,11 +162,6 @@ pub prints-some : (words : List (List ℕ)) (text : List ℕ) → (out : List �
 prints-some words text = at-some (programVerdict words text) (verdict-listable words text)
 
 -- ---- page by page
-
--- no page call on what is listed is refused: not from fresh, nor from any position that the walk reaches
-pub listing-accepted : (s : Settings) (n : ℕ) (t : List ℕ) → Answerable (listing s n t) → (k work : ℕ) → 8 * n ≤ work
-    → refusePage n t s (after (rules (byTable n t) s) k (fresh n)) work ≡ 0
-listing-accepted s n t l = walk-page-accepted n t s (l .1) (l .0)
 
 no-records : (G : Graph) (s : Settings) (ps : List Position) → length (records (rules G s) ps) ≡ 0 → length ps ≡ 0
 unfolding records recordOf

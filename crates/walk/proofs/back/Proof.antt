@@ -78,19 +78,5 @@ returns c =
 pub back-spec : {M : Type 1} → statement M
 back-spec =
     tie.close
-    (tie.spec
-    (λ c. search needs)
-    (λ c κs. search needs)
-    (λ c. search needs)
-    entry-at-requires-2
-    add-entry-at-2
-    entry-at-requires-3
-    trim-requires
-    sub-sum
-    add-next
-    slice-write-position
-    open-ranks-requires
-    push-left-requires
-    same-length
-    (λ c. search needs)
-    returns)
+    (tie.spec (λ c. search needs) (λ c κs. search needs) (λ c. search needs) entry-at-requires-2 add-entry-at-2 entry-at-requires-3 trim-requires sub-sum
+    add-next slice-write-position open-ranks-requires push-left-requires same-length (λ c. search needs) returns)

@@ -70,22 +70,5 @@ returns-2 c =
 pub left-once-taken-spec : {M : Type 1} → statement M
 left-once-taken-spec =
     tie.close
-    (tie.spec
-    Inv-loop
-    μ-loop
-    returns
-    (λ c κs. search needs)
-    loop-holds
-    (λ c κs. search needs)
-    joined-requires
-    (λ c. search needs)
-    (λ c. search needs)
-    (λ c. search needs)
-    (λ c. search needs)
-    slice-write-work
-    (λ c. search needs)
-    (λ c. search needs)
-    (λ c. search needs)
-    loop-again
-    same-length
-    returns-2)
+    (tie.spec Inv-loop μ-loop returns (λ c κs. search needs) loop-holds (λ c κs. search needs) joined-requires (λ c. search needs) (λ c. search needs)
+    (λ c. search needs) (λ c. search needs) slice-write-work (λ c. search needs) (λ c. search needs) (λ c. search needs) loop-again same-length returns-2)

@@ -48,15 +48,5 @@ returns-2 c = sym (any-none _ _ (λ i h. c .before .loop .inv .1 i (omega arith)
 pub misses-one-spec : {M : Type 1} → statement M
 misses-one-spec =
     tie.close
-    (tie.spec
-    Inv-loop
-    μ-loop
-    loop-holds
-    (λ c. search needs)
-    (λ c. search needs)
-    (λ c κs. search needs)
-    joined-requires
-    returns
-    (λ c. search needs)
-    loop-again
-    returns-2)
+    (tie.spec Inv-loop μ-loop loop-holds (λ c. search needs) (λ c. search needs) (λ c κs. search needs) joined-requires returns (λ c. search needs)
+    loop-again returns-2)

@@ -38,13 +38,4 @@ returns c =
 pub open-ranks-spec : {M : Type 1} → statement M
 open-ranks-spec =
     tie.close
-    (tie.spec
-    Inv-loop
-    μ-loop
-    loop-holds
-    slice-write-position
-    (λ c. search needs)
-    (λ c. search needs)
-    loop-again
-    same-length
-    returns)
+    (tie.spec Inv-loop μ-loop loop-holds slice-write-position (λ c. search needs) (λ c. search needs) loop-again same-length returns)

@@ -42,21 +42,6 @@ returns-3 c =
 pub push-left-spec : {M : Type 1} → statement M
 push-left-spec =
     tie.close
-    (tie.spec
-    (λ c. search needs)
-    returns
-    entry-at-requires
-    (λ c κs. search needs)
-    joined-requires
-    (λ c. search needs)
-    (λ c. search needs)
-    (λ c. search needs)
-    (λ c. search needs)
-    slice-write-work
-    (λ c. search needs)
-    (λ c. search needs)
-    (λ c. search needs)
-    returns-2
-    (λ c. search needs)
-    (λ c. search needs)
-    returns-3)
+    (tie.spec (λ c. search needs) returns entry-at-requires (λ c κs. search needs) joined-requires (λ c. search needs) (λ c. search needs)
+    (λ c. search needs) (λ c. search needs) slice-write-work (λ c. search needs) (λ c. search needs) (λ c. search needs) returns-2 (λ c. search needs)
+    (λ c. search needs) returns-3)

@@ -60,22 +60,6 @@ returns c =
 pub push-taken-spec : {M : Type 1} → statement M
 push-taken-spec =
     tie.close
-    (tie.spec
-    (λ c κs. search needs)
-    add-entry-at
-    entry-at-requires-2
-    misses-one-requires
-    (λ c κs. search needs)
-    (λ c κs. search needs)
-    (λ c. search needs)
-    (λ c. search needs)
-    slice-write-work
-    cast-work-2
-    (λ c. search needs)
-    (λ c. search needs)
-    slice-write-work-2
-    (λ c. search needs)
-    (λ c. search needs)
-    add-t22
-    (λ c. search needs)
-    returns)
+    (tie.spec (λ c κs. search needs) add-entry-at entry-at-requires-2 misses-one-requires (λ c κs. search needs) (λ c κs. search needs) (λ c. search needs)
+    (λ c. search needs) slice-write-work cast-work-2 (λ c. search needs) (λ c. search needs) slice-write-work-2 (λ c. search needs) (λ c. search needs)
+    add-t22 (λ c. search needs) returns)

@@ -32,19 +32,6 @@ returns-2 c = search needs
 pub answer-spec : {M : Type 1} → statement M
 answer-spec =
     tie.close
-    (tie.spec
-    (λ c. search needs)
-    (λ c κs. search needs)
-    (λ c. search needs)
-    (λ c. search needs)
-    (λ c. search needs)
-    (λ c κs. search needs)
-    (λ c. search needs)
-    (λ c κs. search needs)
-    (λ c. search needs)
-    mul-table
-    array-share-prefix-table
-    slice-aggregate-list
-    list-requires
-    (λ c. search needs)
+    (tie.spec (λ c. search needs) (λ c κs. search needs) (λ c. search needs) (λ c. search needs) (λ c. search needs) (λ c κs. search needs)
+    (λ c. search needs) (λ c κs. search needs) (λ c. search needs) mul-table array-share-prefix-table slice-aggregate-list list-requires (λ c. search needs)
     returns-2)

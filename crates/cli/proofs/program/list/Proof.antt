@@ -37,18 +37,5 @@ returns c = search needs
 pub list-spec : {M : Type 1} → statement M
 list-spec =
     tie.close
-    (tie.spec
-    (λ c κs. search needs)
-    (λ c κs. search needs)
-    (λ c κs. search needs)
-    (λ c. search needs)
-    slice-aggregate-list-all
-    (λ c. search needs)
-    (λ c. search needs)
-    (λ c. search needs)
-    list-all-requires
-    (λ c. search needs)
-    (λ c κs. search needs)
-    (λ c. search needs)
-    write-first-requires
-    returns)
+    (tie.spec (λ c κs. search needs) (λ c κs. search needs) (λ c κs. search needs) (λ c. search needs) slice-aggregate-list-all (λ c. search needs)
+    (λ c. search needs) (λ c. search needs) list-all-requires (λ c. search needs) (λ c κs. search needs) (λ c. search needs) write-first-requires returns)

@@ -62,23 +62,6 @@ returns-6 c =
 pub settings-of-spec : {M : Type 1} → statement M
 settings-of-spec =
     tie.close
-    (tie.spec
-    returns
-    (λ c κs. search needs)
-    (λ c. search needs)
-    (λ c. search needs)
-    returns-2
-    (λ c κs. search needs)
-    (λ c. search needs)
-    (λ c. search needs)
-    returns-3
-    (λ c κs. search needs)
-    (λ c. search needs)
-    (λ c. search needs)
-    returns-4
-    cast-t14
-    cast-t15
-    cast-t16
-    (λ c κs. search needs)
-    returns-5
-    returns-6)
+    (tie.spec returns (λ c κs. search needs) (λ c. search needs) (λ c. search needs) returns-2 (λ c κs. search needs) (λ c. search needs)
+    (λ c. search needs) returns-3 (λ c κs. search needs) (λ c. search needs) (λ c. search needs) returns-4 cast-t14 cast-t15 cast-t16 (λ c κs. search needs)
+    returns-5 returns-6)

@@ -48,21 +48,5 @@ returns c = search needs
 pub numbers-spec : {M : Type 1} → statement M
 numbers-spec =
     tie.close
-    (tie.spec
-    (λ c. search needs)
-    (λ c. search needs)
-    cast-first
-    (λ c. search needs)
-    (λ c. search needs)
-    (λ c. search needs)
-    (λ c. search needs)
-    cast-last
-    add-least
-    mul-least
-    shared-slice-read-least
-    cast-least
-    add-largest
-    mul-largest
-    shared-slice-read-largest
-    cast-largest
-    returns)
+    (tie.spec (λ c. search needs) (λ c. search needs) cast-first (λ c. search needs) (λ c. search needs) (λ c. search needs) (λ c. search needs) cast-last
+    add-least mul-least shared-slice-read-least cast-least add-largest mul-largest shared-slice-read-largest cast-largest returns)

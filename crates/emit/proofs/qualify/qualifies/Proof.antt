@@ -70,15 +70,5 @@ returns-5 c =
 pub qualifies-spec : {M : Type 1} → statement M
 qualifies-spec =
     tie.close
-    (tie.spec
-    returns
-    returns-2
-    returns-3
-    numbers-requires
-    isolated-by-requires
-    (λ c. refl)
-    returns-4
-    candidates-requires
-    beaten-requires
-    same-length-2
+    (tie.spec returns returns-2 returns-3 numbers-requires isolated-by-requires (λ c. refl) returns-4 candidates-requires beaten-requires same-length-2
     returns-5)

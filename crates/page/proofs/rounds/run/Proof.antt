@@ -92,20 +92,5 @@ returns c =
 pub run-spec : {M : Type 1} → statement M
 run-spec =
     tie.close
-    (tie.spec
-    Inv-loop
-    μ-loop
-    cast-c
-    loop-holds
-    (λ c κs. tt)
-    emit-requires
-    add-groups
-    step-requires
-    add-steps
-    loop-less
-    loop-again
-    (λ c κs. tt)
-    same-length
-    same-length-2
-    same-length-3
-    returns)
+    (tie.spec Inv-loop μ-loop cast-c loop-holds (λ c κs. tt) emit-requires add-groups step-requires add-steps loop-less loop-again (λ c κs. tt) same-length
+    same-length-2 same-length-3 returns)
