@@ -16,7 +16,7 @@ use Rattle.model.specs.Demand as model
 use Rattle.model.specs.Demand.{joinedOutput, SomeFinished, Demand3}
 use Rattle.theory.proofs.calls.Bounds.{page-bounds}
 use Rattle.theory.proofs.calls.Pages.{call-progress, demand3}
-use Rattle.page.specs.Answer.{PageReplies}
+use Rattle.rounds.specs.Answer.{PageReplies}
 use Rattle.demand.specs.Demand.{MadeCall, Promised, reported, Calls, EachCall, Every, PageDemanded}
 
 -- ---- a call of `page::page` and its reply in document 01

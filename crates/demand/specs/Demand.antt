@@ -13,7 +13,7 @@ use Rattle.model.specs.Walk.{Position, fresh, finished}
 use Rattle.model.specs.Listing.{rules}
 use Rattle.model.specs.Calls.{PageReply, refuseTable}
 use Rattle.model.specs.Demand.{joinedOutput, SomeFinished, Demand3}
-use Rattle.page.specs.declared.PageAnswer.{PageAnswer}
+use Rattle.rounds.specs.declared.PageAnswer.{PageAnswer}
 use Rattle.page.specs.Call.{PageCalled}
 
 -- One call of `page::page`: the values of its arguments, the slices as it was handed them, its answer, and the slices as it left them.

@@ -5,7 +5,7 @@ ghost use Rattle.dimacs.specs.Reply.{ReadsAs};
 ghost use Rattle.page.specs.Call.{PageCalled};
 ghost use Rattle.query.specs.Query.{Answers};
 use dimacs::TextAnswer;
-use page::PageAnswer;
+use rounds::PageAnswer;
 use query::SetAnswer;
 
 // The page call.

@@ -25,8 +25,8 @@ use Rattle.theory.proofs.calls.Pages.{replied, page-does, went-finished, chain-
 use Rattle.theory.proofs.calls.Next.{demand-accepted}
 use Rattle.theory.proofs.program.Printed.{held-add}
 use Rattle.theory.proofs.program.Program.{all-groups, pages-listed, pages-print}
-use Rattle.page.specs.declared.PageAnswer.{PageAnswer}
-use Rattle.page.specs.Answer.{PageReplies}
+use Rattle.rounds.specs.declared.PageAnswer.{PageAnswer}
+use Rattle.rounds.specs.Answer.{PageReplies}
 use Rattle.listing.specs.declared.PageDone.{PageDone}
 use Rattle.listing.specs.declared.totals.Totals.{Totals}
 use Rattle.listing.specs.List.{turnReply, Turned, Paged, Ran}

@@ -18,8 +18,8 @@ use Rattle.isolation.specs.Numbers.{settingsOf}
 use Rattle.walk.specs.declared.State.{State}
 use Rattle.walk.specs.State.{Stands}
 use Rattle.walk.specs.Walk.{Walking}
-use Rattle.page.specs.declared.PageAnswer.{PageAnswer}
-use Rattle.page.specs.Answer.{PageReplies, refused}
+use Rattle.rounds.specs.declared.PageAnswer.{PageAnswer}
+use Rattle.rounds.specs.Answer.{PageReplies, refused}
 use Rattle.page.specs.Call.{PageCalled}
 use Rattle.page.proofs.Refusals.{Passed}
 

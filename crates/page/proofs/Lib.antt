@@ -1,5 +1,3 @@
--- Laws.
+-- The refusals of a page call, and its ways.
 pub mod Refusals
-pub mod Turn
-pub mod Round
 pub mod Call

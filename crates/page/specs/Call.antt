@@ -8,8 +8,8 @@ use lib.ListN.{length}
 use Rattle.model.specs.Groups.{Settings}
 use Rattle.model.specs.Walk.{Position}
 use Rattle.model.specs.Calls.{pageCall}
-use Rattle.page.specs.declared.PageAnswer.{PageAnswer}
-use Rattle.page.specs.Answer.{PageReplies}
+use Rattle.rounds.specs.declared.PageAnswer.{PageAnswer}
+use Rattle.rounds.specs.Answer.{PageReplies}
 
 -- A call with the table t, n, the settings s and a budget was handed the position p, the output out and the work slice w; it answered a and left them as
 -- p₁, out₁ and w₁. Document 01, "A page": after acceptance the contents of the work slice are free, the only free thing; its length stays.

@@ -1,4 +1,2 @@
--- Specs.
-pub mod Answer
+-- What a page call promises.
 pub mod Call
-pub mod Turn

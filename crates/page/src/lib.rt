@@ -1,50 +1,19 @@
 // The page call: what it is handed is tested, and then the walk goes on from the position it holds, with its groups put into the output.
-mod rounds;
-
 ghost use mathlib.Core.Path.{_≡_};
 ghost use lib.ListN.{length};
 ghost use Rattle.model.specs.Calls.{refuseTable, refuseSettings, refuseLengths};
 ghost use Rattle.model.specs.Groups.{settings};
 ghost use Rattle.isolation.specs.Numbers.{settingsOf};
-ghost use Rattle.page.specs.Answer.{stopNumber, refused};
+ghost use Rattle.rounds.specs.Answer.{refused};
 ghost use Rattle.page.specs.Call.{PageCalled};
-use crate::rounds::run;
 use graph::prepare;
 use graph::table_refusal;
 use isolation::Settings;
 use isolation::settings_refusal;
 use position::position_refusal;
+use rounds::PageAnswer;
+use rounds::run;
 use walk::rebuild;
-
-// Why a page stopped: document 01, "A page", points 1 to 3.
-pub enum Stop {
-    Finished,
-    Spent,
-    Full,
-}
-
-// The answer of a page call: its refusal number, 0 where it is accepted, and what it did.
-// Document 01, "A page": the answer holds refusal number 0, the stop, groups, entries used, steps, and the entries wanted (size + 1 at Full, else 0).
-#[repr(C)]
-pub struct PageAnswer {
-    pub refusal: u32,
-    pub stop: u32,
-    pub groups: u32,
-    pub steps: u32,
-    pub used: usize,
-    pub wanted: usize,
-}
-
-// The number of a stop: document 01, "A page", has Finished (1), Spent (2), Full (3).
-fn stop_number(s: Stop) -> u32
-    ensures { λ r. ⌜ r ≡ stopNumber s ⌝ }
-{
-    match s {
-        Stop::Finished => 1,
-        Stop::Spent => 2,
-        Stop::Full => 3,
-    }
-}
 
 // The answer of a refused call: document 01, "Turned back by the input": all other numbers in the answer are 0.
 fn turned_back(number: u32) -> PageAnswer

@@ -20,11 +20,11 @@ use Rattle.walk.specs.State.{Stands}
 use Rattle.emit.specs.Qualify.{Asks}
 use Rattle.emit.specs.Emit.{PutAt, Emitted}
 use Rattle.walk.specs.Walk.{rulesAt, Passes, SaysFinished, Walking, Stepped}
-use Rattle.page.specs.Turn.{Turn}
-use Rattle.page.specs.declared.Stop.{Stop}
-use Rattle.page.specs.declared.Stop.the-variants.{Full}
-use Rattle.page.specs.Answer.{stopNumber, PageReplies, accepted}
-use Rattle.page.proofs.Turn.{bit-le, turn-start, turn-length, turn-step, turn-full}
+use Rattle.rounds.specs.Turn.{Turn}
+use Rattle.rounds.specs.declared.Stop.{Stop}
+use Rattle.rounds.specs.declared.Stop.the-variants.{Full}
+use Rattle.rounds.specs.Answer.{stopNumber, PageReplies, accepted}
+use Rattle.rounds.proofs.Turn.{bit-le, turn-start, turn-length, turn-step, turn-full}
 
 -- the rules of a call
 abbrev pub callRules : ℕ → List ℕ → Settings → Rules

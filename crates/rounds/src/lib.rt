@@ -1,4 +1,5 @@
 // The rounds of a page: the loop that writes groups and makes steps until the walk is finished, the budget is spent or the output is full.
+ghost use mathlib.Core.Path.{_≡_};
 ghost use Prim.Native.Nat.{_≤_};
 ghost use lib.ListN.{length};
 ghost use Rattle.model.specs.Graph.{byTable};
@@ -7,15 +8,42 @@ ghost use Rattle.model.specs.Listing.{rules};
 ghost use Rattle.model.specs.Calls.{replyOf};
 ghost use Rattle.isolation.specs.Numbers.{settingsOf};
 ghost use Rattle.walk.specs.Walk.{Walking};
-ghost use Rattle.page.specs.Answer.{PageReplies};
-use crate::PageAnswer;
-use crate::Stop;
-use crate::stop_number;
+ghost use Rattle.rounds.specs.Answer.{stopNumber, PageReplies};
 use emit::emit;
 use isolation::Settings;
 use walk::State;
 use walk::finished;
 use walk::step;
+
+// Why a page stopped: document 01, "A page", points 1 to 3.
+pub enum Stop {
+    Finished,
+    Spent,
+    Full,
+}
+
+// The answer of a page call: its refusal number, 0 where it is accepted, and what it did.
+// Document 01, "A page": the answer holds refusal number 0, the stop, groups, entries used, steps, and the entries wanted (size + 1 at Full, else 0).
+#[repr(C)]
+pub struct PageAnswer {
+    pub refusal: u32,
+    pub stop: u32,
+    pub groups: u32,
+    pub steps: u32,
+    pub used: usize,
+    pub wanted: usize,
+}
+
+// The number of a stop: document 01, "A page", has Finished (1), Spent (2), Full (3).
+fn stop_number(s: Stop) -> u32
+    ensures { λ r. ⌜ r ≡ stopNumber s ⌝ }
+{
+    match s {
+        Stop::Finished => 1,
+        Stop::Spent => 2,
+        Stop::Full => 3,
+    }
+}
 
 // A page from the position that the state and the work slice stand for, accepted by all tests: rounds of one step each, until one stops.
 // Document 01, "A page", points 1 to 5 in this order: finished, spent, full, the group is put out, one step.

@@ -1,14 +1,14 @@
--- `page::rounds::run` meets its contract: it makes the rounds of a page.
+-- `rounds::run` meets its contract: it makes the rounds of a page.
 -- Assumes nothing.
 use Prim.Native.Nat.{_-_}
 use mathlib.Core.Path.{ap, _∙_}
 use mathlib.Core.Logic.{⊎-elim}
 use native.Mathlib.Omega.{arith}
 use lib.ListN.{length}
-use Rattle.page.proofs.Turn.{turn-finished, turn-spent}
-use Rattle.page.proofs.Round.{Running, running-start, output-long, says, asks, more, still-walking, groups-within, running-on, reply-full}
-use Rattle.page.proofs.rounds.run.Statement.{statement}
-use Rattle.page.proofs.rounds.run.Tie as tie
+use Rattle.rounds.proofs.Turn.{turn-finished, turn-spent}
+use Rattle.rounds.proofs.Round.{Running, running-start, output-long, says, asks, more, still-walking, groups-within, running-on, reply-full}
+use Rattle.rounds.proofs.run.Statement.{statement}
+use Rattle.rounds.proofs.run.Tie as tie
 
 abbrev Inv-loop : tie.InvT-loop
 Inv-loop table ranks position₀ output₀ work₀ n q budget c s₀ steps₀ groups₀ used₀ wanted₀ position output work s steps groups used wanted =

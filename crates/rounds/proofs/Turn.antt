@@ -13,10 +13,10 @@ use Rattle.model.specs.Below.{bit}
 use Rattle.model.specs.Walk.{Position, Rules, Page, halt, onward, finished, step, found, due, page}
 use Rattle.model.specs.Calls.{replyOf}
 use Rattle.theory.proofs.walk.Rounds.{page-finished, page-spent, page-full, page-onward}
-use Rattle.page.specs.declared.Stop.{Stop}
-use Rattle.page.specs.declared.Stop.the-variants.{Finished, Spent, Full}
-use Rattle.page.specs.Answer.{stopNumber, PageReplies, accepted}
-use Rattle.page.specs.Turn.{sofar, Turn}
+use Rattle.rounds.specs.declared.Stop.{Stop}
+use Rattle.rounds.specs.declared.Stop.the-variants.{Finished, Spent, Full}
+use Rattle.rounds.specs.Answer.{stopNumber, PageReplies, accepted}
+use Rattle.rounds.specs.Turn.{sofar, Turn}
 
 -- ---- what was done so far
 

@@ -5,9 +5,9 @@ use mathlib.Core.Path.{_≡_}
 use mathlib.Core.List.{List}
 use Rattle.model.specs.Walk.{Position, stoppedFinished, stoppedSpent, stoppedFull}
 use Rattle.model.specs.Calls.{PageReply}
-use Rattle.page.specs.declared.PageAnswer.{PageAnswer}
-use Rattle.page.specs.declared.Stop.{Stop}
-use Rattle.page.specs.declared.Stop.the-variants.{Finished, Spent, Full}
+use Rattle.rounds.specs.declared.PageAnswer.{PageAnswer}
+use Rattle.rounds.specs.declared.Stop.{Stop}
+use Rattle.rounds.specs.declared.Stop.the-variants.{Finished, Spent, Full}
 
 -- Document 01, "A page": stop Finished (1), Spent (2), Full (3)
 abbrev pub stopNumber : Stop → ℕ

@@ -1,0 +1,3 @@
+-- The laws of a round, over any rules and over the state.
+pub mod Turn
+pub mod Round
