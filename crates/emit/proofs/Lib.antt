@@ -1,6 +1,3 @@
--- Laws.
-pub mod Candidates
-pub mod TakenSet
-pub mod Verdicts
+-- The output with a group more.
 pub mod Output
 pub mod Groups

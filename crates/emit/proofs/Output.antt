@@ -16,10 +16,10 @@ use Rattle.isolation.specs.Numbers.{settingsOf}
 use Rattle.walk.specs.declared.State.{State}
 use Rattle.theory.specs.Parts.{part}
 use Rattle.walk.specs.State.{Stands}
-use Rattle.emit.specs.Qualify.{Asks, SaysQualifies}
+use Rattle.qualify.specs.Qualify.{Asks, SaysQualifies}
 use Rattle.emit.specs.Emit.{Emitted}
-use Rattle.emit.proofs.TakenSet.{due-found, due-none}
-use Rattle.emit.proofs.Verdicts.{length-taken}
+use Rattle.qualify.proofs.TakenSet.{due-found, due-none}
+use Rattle.qualify.proofs.Verdicts.{length-taken}
 
 module _ {n : ℕ} {t ranks w w₁ : List ℕ} {q : Settings} {s : State} {b : Bool} (a : Asks n t ranks w q s) (j : SaysQualifies n t w w₁ q s b) (out : List ℕ) (used : ℕ) where
   abbrev G : Graph

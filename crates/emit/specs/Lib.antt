@@ -1,3 +1,2 @@
--- Specs.
-pub mod Qualify
+-- What is put out at a position.
 pub mod Emit

@@ -1,14 +1,13 @@
 // The group of a position: put out where all ranks are decided, the taken set qualifies and its entries fit.
 mod group;
-mod qualify;
 
 ghost use Prim.Native.Nat.{_≤_};
 ghost use lib.ListN.{length};
-ghost use Rattle.emit.specs.Qualify.{Asks};
+ghost use Rattle.qualify.specs.Qualify.{Asks};
 ghost use Rattle.emit.specs.Emit.{Emitted};
 use crate::group::put_group;
-use crate::qualify::qualifies;
 use isolation::Settings;
+use qualify::qualifies;
 use walk::State;
 
 // What became of a position's group: whether there is one that did not fit, how many entries of the output are used now, the groups put out, 0 or 1,

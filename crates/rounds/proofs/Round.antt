@@ -17,7 +17,7 @@ use Rattle.isolation.specs.Numbers.{settingsOf}
 use Rattle.walk.specs.declared.State.{State}
 use Rattle.emit.specs.declared.Put.{Put}
 use Rattle.walk.specs.State.{Stands}
-use Rattle.emit.specs.Qualify.{Asks}
+use Rattle.qualify.specs.Qualify.{Asks}
 use Rattle.emit.specs.Emit.{PutAt, Emitted}
 use Rattle.walk.specs.Walk.{rulesAt, Passes, SaysFinished, Walking, Stepped}
 use Rattle.rounds.specs.Turn.{Turn}

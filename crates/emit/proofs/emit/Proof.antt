@@ -4,7 +4,7 @@ use mathlib.Core.Path.{refl}
 use native.Mathlib.Omega.{arith}
 use borrow.Author.Tests.{not-true, not-false}
 use Rattle.walk.proofs.StandsFor.{enough}
-use Rattle.emit.proofs.Verdicts.{taken-few}
+use Rattle.qualify.proofs.Verdicts.{taken-few}
 use Rattle.emit.proofs.Output.{emitted-none, emitted-full, emitted-put}
 use borrow.Author.Needs.{needs}
 use Rattle.emit.proofs.emit.Statement.{statement}

@@ -14,7 +14,7 @@ use Rattle.theory.specs.Parts.{part, Kept, HoldsVertices, Filled}
 use Rattle.theory.proofs.basics.Parts.{part-length, part-at, same-members, filled-none, filled-push, filled-pass}
 use Rattle.theory.proofs.basics.Passing.{map-at}
 use Rattle.graph.proofs.Ranks.{entry-below}
-use Rattle.emit.specs.Qualify.{joinedOf, Sifts, Sifted}
+use Rattle.qualify.specs.Qualify.{joinedOf, Sifts, Sifted}
 
 -- a vertex at the end of a list is among those joined to all where it is joined to all
 joinedOf-push : (G : Graph) (us vs : List ℕ) (v : ℕ) → joinedOf G us (vs ++ (v ∷ [])) ≡ joinedOf G us vs ++ cond (joinedAll G v us) (v ∷ []) []

@@ -1,4 +1,4 @@
--- `emit::qualify::candidates` meets its contract: the left neighbours of the pivot are looked through, one after the other.
+-- `qualify::candidates` meets its contract: the left neighbours of the pivot are looked through, one after the other.
 -- Assumes nothing.
 use mathlib.Core.Path.{sym, _∙_}
 use mathlib.Core.Logic.{⊎-elim}
@@ -7,9 +7,9 @@ use Prim.Native.Nat.{_+_, _-_, _*_, _≤_}
 use borrow.Author.Needs.{needs}
 use Rattle.theory.specs.Parts.{Filled}
 use Rattle.theory.proofs.basics.Parts.{filled-same}
-use Rattle.emit.proofs.Candidates.{sifted, sifted-none, sifted-hit, sifted-miss, sifted-all, rank-small, vertex-small, members-vertices}
-use Rattle.emit.proofs.qualify.candidates.Statement.{statement}
-use Rattle.emit.proofs.qualify.candidates.Tie as tie
+use Rattle.qualify.proofs.Sifted.{sifted, sifted-none, sifted-hit, sifted-miss, sifted-all, rank-small, vertex-small, members-vertices}
+use Rattle.qualify.proofs.candidates.Statement.{statement}
+use Rattle.qualify.proofs.candidates.Tie as tie
 
 abbrev Inv-loop : tie.InvT-loop
 Inv-loop table ranks work₀ n taken left end m₀ j₀ work m j =

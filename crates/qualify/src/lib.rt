@@ -1,7 +1,7 @@
 // Whether the taken set of a position qualifies, from what the walk's state keeps: no set is built and no vertex outside it is looked at but the left
 // neighbours of the pivot.
 ghost use mathlib.Core.Path.{_≡_};
-ghost use Rattle.emit.specs.Qualify.{Sifts, Sifted, readTally, TallyFits, Asks, SaysQualifies};
+ghost use Rattle.qualify.specs.Qualify.{Sifts, Sifted, readTally, TallyFits, Asks, SaysQualifies};
 use isolation::Settings;
 use isolation::Tally;
 use isolation::isolated_by;

@@ -1,12 +1,12 @@
--- `emit::qualify::qualifies` meets its contract: each test says what it says of every position for which the state stands.
+-- `qualify::qualifies` meets its contract: each test says what it says of every position for which the state stands.
 -- Assumes nothing.
 use mathlib.Core.Path.{refl, sym, ap, _∙_}
 use native.Mathlib.Omega.{arith}
 use borrow.Author.Tests.{not-true, not-false}
 use Rattle.isolation.specs.declared.Tally.{Tally}
-use Rattle.emit.proofs.Verdicts.{judged-open, judged-untaken, judged-apart, judged-exposed, judged-by, tally-fits, sifts, lent, posed}
-use Rattle.emit.proofs.qualify.qualifies.Statement.{statement}
-use Rattle.emit.proofs.qualify.qualifies.Tie as tie
+use Rattle.qualify.proofs.Verdicts.{judged-open, judged-untaken, judged-apart, judged-exposed, judged-by, tally-fits, sifts, lent, posed}
+use Rattle.qualify.proofs.qualifies.Statement.{statement}
+use Rattle.qualify.proofs.qualifies.Tie as tie
 
 returns : tie.Need-returns
 returns c = judged-open (c .before .before .before .before .pre) (c .if1 .taken)

@@ -27,10 +27,10 @@ use Rattle.larger.specs.Search.{Lent, Posed, Tested}
 use Rattle.theory.proofs.basics.Parts.{part-same}
 use Rattle.walk.specs.declared.State.{State}
 use Rattle.walk.specs.State.{takenRanks, leftRanks, Stands}
-use Rattle.emit.specs.Qualify.{joinedOf, candidatesOf, Sifts, Sifted, tallyOf, readTally, TallyFits, Asks, SaysQualifies}
+use Rattle.qualify.specs.Qualify.{joinedOf, candidatesOf, Sifts, Sifted, tallyOf, readTally, TallyFits, Asks, SaysQualifies}
 use Rattle.walk.proofs.Taken.{taken-length}
 use Rattle.walk.proofs.StandsFor.{taken-low, taken-count, left-count, vertex-entry, left-entry}
-use Rattle.emit.proofs.TakenSet.{taken-tally, taken-clique, taken-candidates, found-apart, found-untaken, found-open, found-by}
+use Rattle.qualify.proofs.TakenSet.{taken-tally, taken-clique, taken-candidates, found-apart, found-untaken, found-open, found-by}
 
 -- two tests of which no number passes both pass no more than n numbers below n
 count-apart : (n : ℕ) (p q : ℕ → Bool) → ((i : ℕ) → p i ≡ true → q i ≡ false) → count n p + count n q ≤ n

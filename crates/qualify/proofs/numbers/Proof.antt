@@ -1,12 +1,12 @@
--- `emit::qualify::numbers` meets its contract: it reads what stands at the first and the last taken vertex.
+-- `qualify::numbers` meets its contract: it reads what stands at the first and the last taken vertex.
 -- Assumes nothing.
 use Prim.Native.Nat.{_+_, _-_}
 use native.Mathlib.Omega.{arith}
 use lib.ListN.{getD}
 use borrow.Author.Needs.{needs}
-use Rattle.emit.proofs.Verdicts.{first-below, last-below}
-use Rattle.emit.proofs.qualify.numbers.Statement.{statement}
-use Rattle.emit.proofs.qualify.numbers.Tie as tie
+use Rattle.qualify.proofs.Verdicts.{first-below, last-below}
+use Rattle.qualify.proofs.numbers.Statement.{statement}
+use Rattle.qualify.proofs.numbers.Tie as tie
 
 cast-first : tie.Need-cast-first
 cast-first c = omega (arith, c .shared-slice-known .given (c .before .args .n))

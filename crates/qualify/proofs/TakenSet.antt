@@ -29,7 +29,7 @@ use Rattle.theory.proofs.search.Members.{tally-none, tally-next, tally-all, com
 use Rattle.theory.proofs.walk.Lawful.{apart-test}
 use Rattle.theory.proofs.search.Maximal.{qualifies-tally}
 use Rattle.walk.specs.State.{takenRanks, leftRanks, degreesOf}
-use Rattle.emit.specs.Qualify.{joinedOf, candidatesOf}
+use Rattle.qualify.specs.Qualify.{joinedOf, candidatesOf}
 use Rattle.walk.proofs.Taken.{degrees-none, degrees-more, taken-list, taken-length, taken-at, taken-has, pivot-first}
 
 -- ---- lists

@@ -1,0 +1,2 @@
+-- What `qualifies` and its parts ask for and answer.
+pub mod Qualify
