@@ -13,9 +13,9 @@ use Rattle.model.specs.Walk.{Position, Rules, found, due}
 use Rattle.model.specs.Listing.{takenList, rules}
 use Rattle.isolation.specs.declared.Settings.{Settings}
 use Rattle.isolation.specs.Numbers.{settingsOf}
-use Rattle.walk.specs.declared.State.{State}
+use Rattle.state.specs.declared.State.{State}
 use Rattle.theory.specs.Parts.{part}
-use Rattle.walk.specs.State.{Stands}
+use Rattle.state.specs.State.{Stands}
 use Rattle.qualify.specs.Qualify.{Asks, SaysQualifies}
 use Rattle.emit.specs.Emit.{Emitted}
 use Rattle.qualify.proofs.TakenSet.{due-found, due-none}

@@ -11,9 +11,9 @@ use Rattle.model.specs.Walk.{Position, Rules, found, due}
 use Rattle.model.specs.Listing.{rules}
 use Rattle.isolation.specs.declared.Settings.{Settings}
 use Rattle.isolation.specs.Numbers.{settingsOf}
-use Rattle.walk.specs.declared.State.{State}
+use Rattle.state.specs.declared.State.{State}
 use Rattle.emit.specs.declared.Put.{Put}
-use Rattle.walk.specs.State.{Stands}
+use Rattle.state.specs.State.{Stands}
 
 -- Document 01, "A page", points 3 and 4, at the position p with so many entries of the output used: where what is due does not fit, nothing is written
 -- and its entries are wanted; else it goes right after the used entries

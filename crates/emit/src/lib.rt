@@ -8,7 +8,7 @@ ghost use Rattle.emit.specs.Emit.{Emitted};
 use crate::group::put_group;
 use isolation::Settings;
 use qualify::qualifies;
-use walk::State;
+use state::State;
 
 // What became of a position's group: whether there is one that did not fit, how many entries of the output are used now, the groups put out, 0 or 1,
 // and the entries wanted where one did not fit.

@@ -5,8 +5,8 @@ ghost use Rattle.dimacs.specs.Reply.{ReadsAs};
 ghost use Rattle.page.specs.Call.{PageCalled};
 ghost use Rattle.query.specs.Query.{Answers};
 use dimacs::TextAnswer;
-use rounds::PageAnswer;
 use query::SetAnswer;
+use rounds::PageAnswer;
 
 // The page call.
 #[no_mangle]

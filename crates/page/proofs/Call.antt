@@ -15,8 +15,8 @@ use Rattle.graph.specs.Table.{TableFits}
 use Rattle.graph.specs.Ranks.{RanksFit, Prepared, HoldsRanks}
 use Rattle.isolation.specs.declared.Settings as isolation
 use Rattle.isolation.specs.Numbers.{settingsOf}
-use Rattle.walk.specs.declared.State.{State}
-use Rattle.walk.specs.State.{Stands}
+use Rattle.state.specs.declared.State.{State}
+use Rattle.state.specs.State.{Stands}
 use Rattle.walk.specs.Walk.{Walking}
 use Rattle.rounds.specs.declared.PageAnswer.{PageAnswer}
 use Rattle.rounds.specs.Answer.{PageReplies, refused}

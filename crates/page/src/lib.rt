@@ -13,7 +13,7 @@ use isolation::settings_refusal;
 use position::position_refusal;
 use rounds::PageAnswer;
 use rounds::run;
-use walk::rebuild;
+use state::rebuild;
 
 // The answer of a refused call: document 01, "Turned back by the input": all other numbers in the answer are 0.
 fn turned_back(number: u32) -> PageAnswer

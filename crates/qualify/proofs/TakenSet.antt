@@ -28,9 +28,9 @@ use Rattle.theory.proofs.walk.Moves.{has-found, has-none}
 use Rattle.theory.proofs.search.Members.{tally-none, tally-next, tally-all, common-list}
 use Rattle.theory.proofs.walk.Lawful.{apart-test}
 use Rattle.theory.proofs.search.Maximal.{qualifies-tally}
-use Rattle.walk.specs.State.{takenRanks, leftRanks, degreesOf}
+use Rattle.state.specs.State.{takenRanks, leftRanks, degreesOf}
 use Rattle.qualify.specs.Qualify.{joinedOf, candidatesOf}
-use Rattle.walk.proofs.Taken.{degrees-none, degrees-more, taken-list, taken-length, taken-at, taken-has, pivot-first}
+use Rattle.state.proofs.Taken.{degrees-none, degrees-more, taken-list, taken-length, taken-at, taken-has, pivot-first}
 
 -- ---- lists
 

@@ -25,11 +25,11 @@ use Rattle.isolation.specs.Numbers.{settingsOf, isolatedOf, beatenOf, TallyOf}
 use Rattle.theory.specs.Parts.{part}
 use Rattle.larger.specs.Search.{Lent, Posed, Tested}
 use Rattle.theory.proofs.basics.Parts.{part-same}
-use Rattle.walk.specs.declared.State.{State}
-use Rattle.walk.specs.State.{takenRanks, leftRanks, Stands}
+use Rattle.state.specs.declared.State.{State}
+use Rattle.state.specs.State.{takenRanks, leftRanks, Stands}
 use Rattle.qualify.specs.Qualify.{joinedOf, candidatesOf, Sifts, Sifted, tallyOf, readTally, TallyFits, Asks, SaysQualifies}
-use Rattle.walk.proofs.Taken.{taken-length}
-use Rattle.walk.proofs.StandsFor.{taken-low, taken-count, left-count, vertex-entry, left-entry}
+use Rattle.state.proofs.Taken.{taken-length}
+use Rattle.state.proofs.StandsFor.{taken-low, taken-count, left-count, vertex-entry, left-entry}
 use Rattle.qualify.proofs.TakenSet.{taken-tally, taken-clique, taken-candidates, found-apart, found-untaken, found-open, found-by}
 
 -- two tests of which no number passes both pass no more than n numbers below n

@@ -15,8 +15,8 @@ use Rattle.isolation.specs.declared.Settings.{Settings}
 use Rattle.isolation.specs.declared.Tally.{Tally}
 use Rattle.isolation.specs.Numbers.{settingsOf}
 use Rattle.theory.specs.Parts.{part, Kept, HoldsVertices}
-use Rattle.walk.specs.declared.State.{State}
-use Rattle.walk.specs.State.{leftRanks, degreesOf, Stands, StandsForOne}
+use Rattle.state.specs.declared.State.{State}
+use Rattle.state.specs.State.{leftRanks, degreesOf, Stands, StandsForOne}
 
 -- those of the vertices vs that are joined to each of the vertices us, in their order
 unfoldable pub joinedOf : Graph → List ℕ → List ℕ → List ℕ

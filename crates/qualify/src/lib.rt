@@ -7,7 +7,7 @@ use isolation::Tally;
 use isolation::isolated_by;
 use larger::beaten;
 use larger::joined_to_all;
-use walk::State;
+use state::State;
 
 // Writes those of the left neighbours of the pivot, whose ranks are the first `left` entries of part 2 of work, that are joined to each taken vertex, the
 // first `taken` entries of part 1, into part 3, and says how many. Writes nothing else.

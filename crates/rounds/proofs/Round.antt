@@ -14,12 +14,12 @@ use Rattle.model.specs.Calls.{replyOf}
 use Rattle.graph.proofs.Ranks.{table-size}
 use Rattle.isolation.specs.declared.Settings.{Settings}
 use Rattle.isolation.specs.Numbers.{settingsOf}
-use Rattle.walk.specs.declared.State.{State}
+use Rattle.state.specs.declared.State.{State}
 use Rattle.emit.specs.declared.Put.{Put}
-use Rattle.walk.specs.State.{Stands}
+use Rattle.state.specs.State.{Stands, SaysFinished}
 use Rattle.qualify.specs.Qualify.{Asks}
 use Rattle.emit.specs.Emit.{PutAt, Emitted}
-use Rattle.walk.specs.Walk.{rulesAt, Passes, SaysFinished, Walking, Stepped}
+use Rattle.walk.specs.Walk.{rulesAt, Passes, Walking, Stepped}
 use Rattle.rounds.specs.Turn.{Turn}
 use Rattle.rounds.specs.declared.Stop.{Stop}
 use Rattle.rounds.specs.declared.Stop.the-variants.{Full}

@@ -11,8 +11,8 @@ ghost use Rattle.walk.specs.Walk.{Walking};
 ghost use Rattle.rounds.specs.Answer.{stopNumber, PageReplies};
 use emit::emit;
 use isolation::Settings;
-use walk::State;
-use walk::finished;
+use state::State;
+use state::finished;
 use walk::step;
 
 // Why a page stopped: document 01, "A page", points 1 to 3.

@@ -24,12 +24,13 @@ use Rattle.theory.proofs.walk.Remaining.{open-zero, fresh-open, retreat-length}
 use Rattle.theory.specs.Parts.{part}
 use Rattle.graph.proofs.Ranks.{table-size}
 use Rattle.graph.specs.Ranks.{HoldsRanks}
-use Rattle.walk.specs.State.{takenRanks, leftOfPivot, leftRanks, degreesOf, Stands}
-use Rattle.walk.specs.Walk.{Decides, Trimmed, RanksOpened}
-use Rattle.walk.specs.declared.State.{State}
-use Rattle.walk.proofs.Taken.{Pair, apart-pairs, pair-in, degrees-more, taken-list, taken-length, taken-has, left-none, pivot-first, pivot-is}
-use Rattle.walk.proofs.StandsFor.{taken-count, left-count, rank-entry, left-entry, rank-low, vertex-of-rank, taken-low}
-use Rattle.walk.proofs.Opened.{opened, opened-length, opened-below, opened-above}
+use Rattle.state.specs.State.{takenRanks, leftOfPivot, leftRanks, degreesOf, Stands}
+use Rattle.state.specs.NextRank.{Decides, RanksOpened}
+use Rattle.walk.specs.Walk.{Trimmed}
+use Rattle.state.specs.declared.State.{State}
+use Rattle.state.proofs.Taken.{Pair, apart-pairs, pair-in, degrees-more, taken-list, taken-length, taken-has, left-none, pivot-first, pivot-is}
+use Rattle.state.proofs.StandsFor.{taken-count, left-count, rank-entry, left-entry, rank-low, vertex-of-rank, taken-low}
+use Rattle.state.proofs.Opened.{opened, opened-length, opened-below, opened-above}
 
 -- r is a taken rank of the position p of the graph G, and no taken rank is higher
 pub record Highest (G : Graph) (p : Position) (r : ℕ) : Type 0 where

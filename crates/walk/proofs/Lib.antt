@@ -1,8 +1,3 @@
--- Laws.
-pub mod Taken
-pub mod NextRank
-pub mod StandsFor
-pub mod RankPushed
-pub mod Opened
+-- The highest taken rank left, and one step.
 pub mod HighestTaken
 pub mod OneStep

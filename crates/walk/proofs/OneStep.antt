@@ -17,10 +17,10 @@ use Rattle.theory.proofs.calls.PageAccepted.{refuse-pass}
 use Rattle.theory.proofs.calls.Pages.{table-lawful}
 use Rattle.theory.proofs.walk.Moves.{step-accepted}
 use Rattle.graph.proofs.Ranks.{table-size}
-use Rattle.walk.specs.State.{Stands}
+use Rattle.state.specs.State.{Stands}
 use Rattle.walk.specs.Walk.{rulesAt, Walking, Moved, Stepped}
-use Rattle.walk.specs.declared.State.{State}
-use Rattle.walk.proofs.StandsFor.{some-open, no-open, finished-decided, untaken-live}
+use Rattle.state.specs.declared.State.{State}
+use Rattle.state.proofs.StandsFor.{some-open, no-open, finished-decided, untaken-live}
 
 module _ {n : ℕ} {c : Factor} {t ranks : List ℕ} {p : Position} {w : List ℕ} {s : State} (W : Walking n c t ranks p w s) where
   abbrev G : Graph

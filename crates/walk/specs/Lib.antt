@@ -1,3 +1,2 @@
--- Specs.
-pub mod State
+-- What one step, and its parts, leave behind.
 pub mod Walk

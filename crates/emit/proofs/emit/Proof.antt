@@ -3,7 +3,7 @@
 use mathlib.Core.Path.{refl}
 use native.Mathlib.Omega.{arith}
 use borrow.Author.Tests.{not-true, not-false}
-use Rattle.walk.proofs.StandsFor.{enough}
+use Rattle.state.proofs.StandsFor.{enough}
 use Rattle.qualify.proofs.Verdicts.{taken-few}
 use Rattle.emit.proofs.Output.{emitted-none, emitted-full, emitted-put}
 use borrow.Author.Needs.{needs}

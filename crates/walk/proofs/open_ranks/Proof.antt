@@ -3,8 +3,8 @@
 use Prim.Native.Nat.{ℕ, _-_, _≤_}
 use mathlib.Core.Path.{_≡_, subst}
 use native.Mathlib.Omega.{arith}
-use Rattle.walk.specs.Walk.{RanksOpened}
-use Rattle.walk.proofs.Opened.{cleared-none, cleared-more}
+use Rattle.state.specs.NextRank.{RanksOpened}
+use Rattle.state.proofs.Opened.{cleared-none, cleared-more}
 use borrow.Author.Needs.{needs}
 use Rattle.walk.proofs.open_ranks.Statement.{statement}
 use Rattle.walk.proofs.open_ranks.Tie as tie

@@ -7,8 +7,8 @@ use lib.ListN.{length}
 use Rattle.model.specs.Walk.{advance}
 use Rattle.theory.proofs.walk.Moves.{advance-is}
 use Rattle.graph.proofs.Ranks.{table-size}
-use Rattle.walk.specs.Walk.{Decides}
-use Rattle.walk.proofs.Opened.{set-decides}
+use Rattle.state.specs.NextRank.{Decides}
+use Rattle.state.proofs.Opened.{set-decides}
 use borrow.Author.Needs.{needs}
 use Rattle.walk.proofs.take.Statement.{statement}
 use Rattle.walk.proofs.take.Tie as tie

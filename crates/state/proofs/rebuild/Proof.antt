@@ -1,4 +1,4 @@
--- `walk::rebuild` meets its contract: the state stands for the position with the ranks from `decided` on opened.
+-- `state::rebuild` meets its contract: the state stands for the position with the ranks from `decided` on opened.
 -- Assumes nothing.
 use Prim.Native.Nat.{ℕ, _+_, _-_, _<_}
 use mathlib.Core.Path.{_≡_, refl, _∙_, subst⁻¹}
@@ -7,11 +7,11 @@ use native.Mathlib.Omega.{arith}
 use lib.ListN.{length, getD, List·getD-eq-default}
 use Rattle.model.specs.Graph.{byTable}
 use Rattle.graph.proofs.Ranks.{table-size}
-use Rattle.walk.specs.State.{Stands}
-use Rattle.walk.proofs.Opened.{opened, fresh-stands, opened-decides, stands-whole, gapless, bytes-most}
+use Rattle.state.specs.State.{Stands}
+use Rattle.state.proofs.Opened.{opened, fresh-stands, opened-decides, stands-whole, gapless, bytes-most}
 use borrow.Author.Needs.{needs}
-use Rattle.walk.proofs.rebuild.Statement.{statement}
-use Rattle.walk.proofs.rebuild.Tie as tie
+use Rattle.state.proofs.rebuild.Statement.{statement}
+use Rattle.state.proofs.rebuild.Tie as tie
 
 abbrev Inv-loop : tie.InvT-loop
 Inv-loop table ranks n position work₀ s₀ work s = Stands (byTable n table) (opened (s .decided) position) work s × (length work ≡ length work₀)

@@ -8,10 +8,11 @@ use mathlib.Core.List.{List, [], _∷_}
 use lib.ListN.{length, getD}
 use Rattle.model.specs.Below.{passing}
 use Rattle.model.specs.Graph.{Graph, degree}
+use Rattle.model.specs.Groups.{Factor}
 use Rattle.theory.specs.Parts.{part}
-use Rattle.model.specs.Walk.{Position, has}
-use Rattle.model.specs.Listing.{is, adjacent, pivot, apart, takenList}
-use Rattle.walk.specs.declared.State.{State}
+use Rattle.model.specs.Walk.{Position, has, finished}
+use Rattle.model.specs.Listing.{is, adjacent, pivot, apart, dead, takenList}
+use Rattle.state.specs.declared.State.{State}
 
 -- the taken ranks, lowest first
 unfoldable pub takenRanks : Graph → Position → List ℕ
@@ -50,3 +51,11 @@ pub record Stands (G : Graph) (p : Position) (w : List ℕ) (s : State) : Type 0
 -- the state and the work slice stand for some position
 abbrev pub StandsForOne : Graph → List ℕ → State → Type 0
 StandsForOne G w s = (p : Position) × Stands G p w s
+
+-- what `finished` says of every position for which the state stands
+abbrev pub SaysFinished : ℕ → State → Bool → Type 0
+SaysFinished n s b = (G : Graph) (p : Position) (w : List ℕ) → G .size ≡ n → Stands G p w s → b ≡ finished p
+
+-- what `is_dead` says of every position for which the state stands
+abbrev pub SaysDead : Factor → State → Bool → Type 0
+SaysDead c s b = (G : Graph) (p : Position) (w : List ℕ) → Stands G p w s → b ≡ dead G c p

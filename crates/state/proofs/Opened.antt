@@ -17,10 +17,10 @@ use Rattle.theory.proofs.basics.Passing.{no-entries}
 use Rattle.theory.proofs.calls.DeadPosition.{gap-test}
 use Rattle.theory.proofs.walk.Remaining.{open-zero, fresh-open}
 use Rattle.graph.proofs.Refusals.{over-found}
-use Rattle.walk.specs.State.{takenRanks, degreesOf, Stands}
-use Rattle.walk.specs.Walk.{Decides, RanksOpened}
-use Rattle.walk.specs.declared.State.{State}
-use Rattle.walk.proofs.Taken.{apart-none, degrees-none, taken-length, taken-at, left-none}
+use Rattle.state.specs.State.{takenRanks, degreesOf, Stands}
+use Rattle.state.specs.NextRank.{Decides, RanksOpened}
+use Rattle.state.specs.declared.State.{State}
+use Rattle.state.proofs.Taken.{apart-none, degrees-none, taken-length, taken-at, left-none}
 
 -- the position with rank d and all after it opened
 unfoldable pub opened : ℕ → Position → Position

@@ -1,4 +1,4 @@
--- `walk::left_once_taken` meets its contract: part 2 holds the ranks that were passed and are adjacent to d.
+-- `state::left_once_taken` meets its contract: part 2 holds the ranks that were passed and are adjacent to d.
 -- Assumes nothing.
 use Prim.Native.Nat.{_-_, _*_, _≤_}
 use mathlib.Core.Path.{sym, _∙_}
@@ -11,11 +11,11 @@ use Rattle.theory.specs.Parts.{Filled}
 use Rattle.theory.proofs.basics.Parts.{filled-none, filled-push, filled-pass, filled-same}
 use Rattle.theory.proofs.basics.Passing.{passing-none, passing-hit, passing-miss}
 use Rattle.graph.proofs.Ranks.{entry-below, entries-adjacent}
-use Rattle.walk.proofs.StandsFor.{enough}
-use Rattle.walk.proofs.RankPushed.{left-stays, left-found}
+use Rattle.state.proofs.StandsFor.{enough}
+use Rattle.state.proofs.RankPushed.{left-stays, left-found}
 use borrow.Author.Needs.{needs}
-use Rattle.walk.proofs.left_once_taken.Statement.{statement}
-use Rattle.walk.proofs.left_once_taken.Tie as tie
+use Rattle.state.proofs.left_once_taken.Statement.{statement}
+use Rattle.state.proofs.left_once_taken.Tie as tie
 
 abbrev Inv-loop : tie.InvT-loop
 Inv-loop table ranks n work₀ d k v m₀ i₀ work m i =

@@ -1,10 +1,10 @@
--- `walk::finished` meets its contract: with all ranks decided the position is finished where nothing is taken.
+-- `state::finished` meets its contract: with all ranks decided the position is finished where nothing is taken.
 -- Assumes nothing.
 use mathlib.Core.Path.{sym}
 use native.Mathlib.Omega.{arith}
-use Rattle.walk.proofs.StandsFor.{finished-open, finished-decided}
-use Rattle.walk.proofs.finished.Statement.{statement}
-use Rattle.walk.proofs.finished.Tie as tie
+use Rattle.state.proofs.StandsFor.{finished-open, finished-decided}
+use Rattle.state.proofs.finished.Statement.{statement}
+use Rattle.state.proofs.finished.Tie as tie
 
 returns : tie.Need-returns
 returns c = λ G p w e St. sym (finished-open St (omega arith))

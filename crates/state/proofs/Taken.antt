@@ -18,7 +18,7 @@ use Rattle.theory.proofs.basics.Passing.{passing-none}
 use Rattle.theory.proofs.basics.PassingParts.{passing-below, passing-at, passing-found, passing-first, least-of}
 use Rattle.theory.proofs.walk.Moves.{has-found, has-none}
 use Rattle.theory.proofs.walk.Lawful.{apart-test}
-use Rattle.walk.specs.State.{takenRanks, leftOfPivot, leftRanks, degreesOf}
+use Rattle.state.specs.State.{takenRanks, leftOfPivot, leftRanks, degreesOf}
 
 -- ---- sums of degrees
 

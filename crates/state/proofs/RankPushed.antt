@@ -17,12 +17,12 @@ use Rattle.theory.proofs.basics.Parts.{part-push, part-before, part-after, part
 use Rattle.theory.specs.Parts.{part, Filled}
 use Rattle.graph.proofs.Ranks.{table-size, entry-below}
 use Rattle.graph.specs.Ranks.{HoldsRanks}
-use Rattle.walk.specs.State.{takenRanks, leftRanks, degreesOf, Stands, StandsForOne}
-use Rattle.walk.specs.Walk.{Decides, Pushed, LeftOnceTaken}
-use Rattle.walk.specs.declared.State.{State}
-use Rattle.walk.proofs.Taken.{degrees-more, untaken-at}
-use Rattle.walk.proofs.NextRank.{ranks-taken, vertices-taken, ranks-left, vertices-left, left-kept, left-more, left-same, left-still-none, left-first, apart-taken, apart-left}
-use Rattle.walk.proofs.StandsFor.{taken-count, vertex-entry, pivot-entry, none-taken, some-taken, enough}
+use Rattle.state.specs.State.{takenRanks, leftRanks, degreesOf, Stands, StandsForOne}
+use Rattle.state.specs.NextRank.{Decides, Pushed, LeftOnceTaken}
+use Rattle.state.specs.declared.State.{State}
+use Rattle.state.proofs.Taken.{degrees-more, untaken-at}
+use Rattle.state.proofs.NextRank.{ranks-taken, vertices-taken, ranks-left, vertices-left, left-kept, left-more, left-same, left-still-none, left-first, apart-taken, apart-left}
+use Rattle.state.proofs.StandsFor.{taken-count, vertex-entry, pivot-entry, none-taken, some-taken, enough}
 
 module _ {G : Graph} {p q : Position} {w : List ℕ} {s : State} (St : Stands G p w s) (low : s .decided < G .size) {x : ℕ} (D : Decides (s .decided) x p q) where
   -- what any push keeps

@@ -1,13 +1,13 @@
--- `walk::push` meets its contract: a mark that is 1 or 2, and not 1, is 2.
+-- `state::push` meets its contract: a mark that is 1 or 2, and not 1, is 2.
 -- Assumes nothing.
 use Prim.Native.Nat.{ℕ}
 use mathlib.Core.Path.{_≡_, subst⁻¹}
 use native.Mathlib.Omega.{arith}
 use Rattle.model.specs.Graph.{byTable}
-use Rattle.walk.specs.Walk.{Pushed}
+use Rattle.state.specs.NextRank.{Pushed}
 use borrow.Author.Needs.{needs}
-use Rattle.walk.proofs.push.Statement.{statement}
-use Rattle.walk.proofs.push.Tie as tie
+use Rattle.state.proofs.push.Statement.{statement}
+use Rattle.state.proofs.push.Tie as tie
 
 push-taken-requires : tie.Need-push-taken-requires
 push-taken-requires c κs = search needs

@@ -1,10 +1,10 @@
--- `walk::is_dead` meets its contract: apart, or something is taken and c or more of the pivot's neighbours are left.
+-- `state::is_dead` meets its contract: apart, or something is taken and c or more of the pivot's neighbours are left.
 -- Assumes nothing.
 use mathlib.Core.Path.{sym, _∙_}
 use native.Mathlib.Omega.{arith}
-use Rattle.walk.proofs.StandsFor.{dead-apart, dead-untaken, dead-by-left}
-use Rattle.walk.proofs.is_dead.Statement.{statement}
-use Rattle.walk.proofs.is_dead.Tie as tie
+use Rattle.state.proofs.StandsFor.{dead-apart, dead-untaken, dead-by-left}
+use Rattle.state.proofs.is_dead.Statement.{statement}
+use Rattle.state.proofs.is_dead.Tie as tie
 
 returns : tie.Need-returns
 returns c = λ G p w St. sym (dead-apart St _ (c .if1 .taken))

@@ -1,13 +1,13 @@
--- `walk::push_taken` meets its contract: the next rank and its vertex come last in parts 0 and 1.
+-- `state::push_taken` meets its contract: the next rank and its vertex come last in parts 0 and 1.
 -- Assumes nothing.
 use native.Mathlib.Omega.{arith}
 use lib.ListN.{length-set}
 use Rattle.graph.proofs.Ranks.{entry-below}
-use Rattle.walk.proofs.StandsFor.{enough, taken-low, degree-read, sum-small}
-use Rattle.walk.proofs.RankPushed.{taken-pushed}
+use Rattle.state.proofs.StandsFor.{enough, taken-low, degree-read, sum-small}
+use Rattle.state.proofs.RankPushed.{taken-pushed}
 use borrow.Author.Needs.{needs}
-use Rattle.walk.proofs.push_taken.Statement.{statement}
-use Rattle.walk.proofs.push_taken.Tie as tie
+use Rattle.state.proofs.push_taken.Statement.{statement}
+use Rattle.state.proofs.push_taken.Tie as tie
 
 add-entry-at : tie.Need-add-entry-at
 add-entry-at c =

@@ -1,4 +1,4 @@
--- `walk::misses_one` meets its contract: the vertices that were passed are joined to v.
+-- `state::misses_one` meets its contract: the vertices that were passed are joined to v.
 -- Assumes nothing.
 use Prim.Native.Nat.{ℕ, _+_, _-_, _≤_, _<_}
 use mathlib.Core.Path.{_≡_, sym, ap, _∙_}
@@ -9,8 +9,8 @@ use lib.ListN.{getD}
 use Rattle.model.specs.Graph.{byTable}
 use Rattle.theory.proofs.basics.Tests.{from-more, any-found, any-none}
 use borrow.Author.Needs.{needs}
-use Rattle.walk.proofs.misses_one.Statement.{statement}
-use Rattle.walk.proofs.misses_one.Tie as tie
+use Rattle.state.proofs.misses_one.Statement.{statement}
+use Rattle.state.proofs.misses_one.Tie as tie
 
 -- the test of the vertex x that was read as u
 read : (n : ℕ) (t : List ℕ) (v : ℕ) {u x : ℕ} {a b : Bool} → u ≡ x → a ≡ byTable n t .joined u v → not a ≡ b → not (byTable n t .joined x v) ≡ b

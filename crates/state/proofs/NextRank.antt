@@ -18,9 +18,9 @@ use Rattle.theory.proofs.basics.Passing.{map-at}
 use Rattle.theory.proofs.basics.PassingParts.{passing-same, passing-below, passing-next}
 use Rattle.theory.proofs.calls.DeadPosition.{below-pivot}
 use Rattle.theory.proofs.walk.Moves.{has-found}
-use Rattle.walk.specs.State.{takenRanks, leftOfPivot, leftRanks}
-use Rattle.walk.specs.Walk.{Decides}
-use Rattle.walk.proofs.Taken.{taken-list, taken-at, taken-found, taken-has, left-none, pivot-first, pivot-is, Pair, apart-pairs, pair-in}
+use Rattle.state.specs.State.{takenRanks, leftOfPivot, leftRanks}
+use Rattle.state.specs.NextRank.{Decides}
+use Rattle.state.proofs.Taken.{taken-list, taken-at, taken-found, taken-has, left-none, pivot-first, pivot-is, Pair, apart-pairs, pair-in}
 
 -- p has no decided rank from d on, and q is p with d decided as x
 module _ (G : Graph) {d x : ℕ} {p q : Position} (low : d < G .size) (clear : (r : ℕ) → d ≤ r → getD p r 0 ≡ 0) (D : Decides d x p q) where

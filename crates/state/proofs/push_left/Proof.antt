@@ -1,13 +1,13 @@
--- `walk::push_left` meets its contract: the next rank goes onto part 2 where it is adjacent to the pivot.
+-- `state::push_left` meets its contract: the next rank goes onto part 2 where it is adjacent to the pivot.
 -- Assumes nothing.
 use mathlib.Core.Path.{sym, _∙_}
 use native.Mathlib.Omega.{arith}
 use Rattle.graph.proofs.Ranks.{entry-below}
-use Rattle.walk.proofs.StandsFor.{enough, first-low}
-use Rattle.walk.proofs.RankPushed.{neighbour-pushed, other-pushed}
+use Rattle.state.proofs.StandsFor.{enough, first-low}
+use Rattle.state.proofs.RankPushed.{neighbour-pushed, other-pushed}
 use borrow.Author.Needs.{needs}
-use Rattle.walk.proofs.push_left.Statement.{statement}
-use Rattle.walk.proofs.push_left.Tie as tie
+use Rattle.state.proofs.push_left.Statement.{statement}
+use Rattle.state.proofs.push_left.Tie as tie
 
 returns : tie.Need-returns
 returns c =

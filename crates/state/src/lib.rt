@@ -1,0 +1,200 @@
+// The state of a page: how it stands for a position, rebuilt from one, and with the next rank taken or left. It looks at the taken vertices and at the
+// rank that is decided, and at nothing else of the position.
+ghost use mathlib.Core.Path.{_≡_};
+ghost use mathlib.Core.Bool.{false, _||_, not};
+ghost use Prim.Native.Nat.{_+_, _*_, _≤_, _<_};
+ghost use lib.ListN.{length, getD};
+ghost use Rattle.model.specs.Below.{any};
+ghost use Rattle.model.specs.Graph.{byTable};
+ghost use Rattle.model.specs.Calls.{over, gap};
+ghost use Rattle.graph.specs.Ranks.{HoldsRanks};
+ghost use Rattle.state.specs.State.{Stands, StandsForOne, SaysFinished, SaysDead};
+ghost use Rattle.state.specs.NextRank.{Pushed, Misses, LeftOnceTaken};
+use graph::entry_at;
+use graph::joined;
+
+// What a page keeps beside the position and the work slice: how many ranks are decided, how many of them are taken, how many neighbours of the
+// pivot are left, the sum of the taken vertices' degrees, and whether two taken ranks are not adjacent.
+pub struct State {
+    pub decided: usize,
+    pub taken: usize,
+    pub left: usize,
+    pub sum: usize,
+    pub apart: bool,
+}
+
+// Whether a or b holds.
+fn either(a: bool, b: bool) -> bool
+    ensures { λ r. ⌜ r ≡ (a || b) ⌝ }
+{
+    if a {
+        return true;
+    }
+    b
+}
+
+// Whether the walk is finished. Document 01, "The walk": finished is all 2, so all ranks are decided and nothing is taken.
+pub fn finished(s: State, n: usize) -> bool
+    ensures { λ r. ⌜ SaysFinished n s r ⌝ }
+{
+    let d = s.decided;
+    let taken = s.taken;
+    if d < n {
+        return false;
+    }
+    taken == 0
+}
+
+// Whether the position is dead. Document 01, "The walk": two taken ranks are not adjacent, or something is taken and at least c neighbours of the
+// pivot are left. The pivot has the least outside count of a clique, so then no notion of document 002, section 2.1, can hold.
+pub fn is_dead(s: State, c: usize) -> bool
+    ensures { λ r. ⌜ SaysDead c s r ⌝ }
+{
+    let apart = s.apart;
+    let k = s.taken;
+    let m = s.left;
+    if apart {
+        return true;
+    }
+    if k == 0 {
+        return false;
+    }
+    c <= m
+}
+
+// Whether some of the first k vertices of part 1 is not joined to v. Reads them from the last, up to one that is not.
+fn misses_one(table: &[u8], n: usize, work: &[u16], k: usize, v: usize) -> bool
+    requires { ⌜ Misses n (now table) (now work) k v ⌝ }
+    ensures { λ r. ⌜ r ≡ any k (λ j. not (byTable n (now (table .entry)) .joined (getD (now (work .entry)) (n + j) 0) v)) ⌝ }
+{
+    let mut j = k;
+    while 0 < j {
+        let last = j - 1;
+        let u = entry_at(work, n + last);
+        if !joined(table, n, u, v) {
+            return true;
+        }
+        j = last;
+    }
+    false
+}
+
+// How many neighbours of the pivot are left once the next rank, d, is taken; part 2 of work then holds them, lowest first. Document 01, "Graph and
+// ranks", after documents 000 and 002: the pivot is the member of lowest rank, one of least degree. So it stays where something is taken. Else it
+// is d, and the ranks below d, which are all left, are looked through once.
+fn left_once_taken(s: State, table: &[u8], ranks: &[u16], n: usize, work: &mut [u16]) -> usize
+    requires { ⌜ HoldsRanks n (now table) (now ranks) × StandsForOne (byTable n (now table)) (now work) s × (s .decided < n) ⌝ }
+    ensures { λ m. ⌜ LeftOnceTaken (byTable n (now (table .entry))) (now (work .entry)) s (now (work .exit)) m ⌝ }
+{
+    let d = s.decided;
+    let k = s.taken;
+    if 0 < k {
+        return s.left;
+    }
+    let v = entry_at(ranks, d);
+    let mut m: usize = 0;
+    let mut i = 0;
+    while i < d {
+        let u = entry_at(ranks, i);
+        if joined(table, n, v, u) {
+            work[2 * n + m] = i as u16;
+            m += 1;
+        }
+        i += 1;
+    }
+    m
+}
+
+// The state with the next rank taken: its vertex is tested against the taken ones. Does not touch the position.
+pub fn push_taken(s: State, table: &[u8], ranks: &[u16], n: usize, work: &mut [u16]) -> State
+    requires { ⌜ HoldsRanks n (now table) (now ranks) × StandsForOne (byTable n (now table)) (now work) s × (s .decided < n) ⌝ }
+    ensures { λ r. ⌜ Pushed (byTable n (now (table .entry))) 1 (now (work .entry)) s (now (work .exit)) r ⌝ }
+{
+    let d = s.decided;
+    let k = s.taken;
+    let v = entry_at(ranks, d);
+    let degree = entry_at(ranks, n + v);
+    let apart = either(s.apart, misses_one(table, n, work, k, v));
+    let left = left_once_taken(s, table, ranks, n, work);
+    work[k] = d as u16;
+    work[n + k] = v as u16;
+    State {
+        decided: d + 1,
+        taken: k + 1,
+        left,
+        sum: s.sum + degree,
+        apart,
+    }
+}
+
+// The state with the next rank left: a neighbour of the pivot goes onto part 2. Does not touch the position.
+pub fn push_left(s: State, table: &[u8], ranks: &[u16], n: usize, work: &mut [u16]) -> State
+    requires { ⌜ HoldsRanks n (now table) (now ranks) × StandsForOne (byTable n (now table)) (now work) s × (s .decided < n) ⌝ }
+    ensures { λ r. ⌜ Pushed (byTable n (now (table .entry))) 2 (now (work .entry)) s (now (work .exit)) r ⌝ }
+{
+    let d = s.decided;
+    let k = s.taken;
+    let m = s.left;
+    if k == 0 {
+        return State {
+            decided: d + 1,
+            taken: s.taken,
+            left: s.left,
+            sum: s.sum,
+            apart: s.apart,
+        };
+    }
+    let p = entry_at(work, n);
+    let v = entry_at(ranks, d);
+    if joined(table, n, p, v) {
+        work[2 * n + m] = d as u16;
+        return State {
+            decided: d + 1,
+            taken: s.taken,
+            left: m + 1,
+            sum: s.sum,
+            apart: s.apart,
+        };
+    }
+    State {
+        decided: d + 1,
+        taken: s.taken,
+        left: s.left,
+        sum: s.sum,
+        apart: s.apart,
+    }
+}
+
+// The state with the next rank decided as the mark says. Document 01, "The walk": 1 is taken and 2 is left.
+fn push(s: State, mark: u8, table: &[u8], ranks: &[u16], n: usize, work: &mut [u16]) -> State
+    requires { ⌜ HoldsRanks n (now table) (now ranks) × StandsForOne (byTable n (now table)) (now work) s × (s .decided < n) × (0 < mark) × (mark ≤ 2) ⌝ }
+    ensures { λ r. ⌜ Pushed (byTable n (now (table .entry))) mark (now (work .entry)) s (now (work .exit)) r ⌝ }
+{
+    if mark == 1 {
+        return push_taken(s, table, ranks, n, work);
+    }
+    push_left(s, table, ranks, n, work)
+}
+
+// The state of a position that passes refusals 21 and 22. Goes once through its decided ranks.
+pub fn rebuild(table: &[u8], ranks: &[u16], n: usize, position: &[u8], work: &mut [u16]) -> State
+    requires { ⌜ HoldsRanks n (now table) (now ranks) × (length (now position) ≡ n) × (8 * n ≤ length (now work)) × (over 2 (now position) ≡ false) × (gap (now position) ≡ false) ⌝ }
+    ensures { λ r. ⌜ Stands (byTable n (now (table .entry))) (now (position .entry)) (now (work .exit)) r ⌝ }
+{
+    let mut s = State {
+        decided: 0,
+        taken: 0,
+        left: 0,
+        sum: 0,
+        apart: false,
+    };
+    while s.decided < n {
+        let d = s.decided;
+        let mark = position[d];
+        if mark == 0 {
+            return s;
+        }
+        s = push(s, mark, table, ranks, n, work);
+    }
+    s
+}
