@@ -1,4 +1,2 @@
--- The laws of what was read of the words and of the text, and the theorem about what the program prints.
-pub mod ReadWords
-pub mod JudgedText
+-- The theorem about what the program prints.
 pub mod ProgramPrints

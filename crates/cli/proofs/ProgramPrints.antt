@@ -20,13 +20,13 @@ use Rattle.number.proofs.Numbers.{number-empty, number-long}
 use Rattle.isolation.specs.Numbers as numbers
 use Rattle.isolation.specs.declared.Settings.{Settings}
 use Rattle.listing.specs.declared.totals.Totals.{Totals}
-use Rattle.cli.specs.declared.verdict.Verdict as verdict
-use Rattle.cli.specs.declared.verdict.Verdict.the-variants.{Refused, Listing}
-use Rattle.cli.specs.declared.words.Words as said
-use Rattle.cli.specs.declared.words.Words.the-variants.{Wrong, Chosen}
+use Rattle.request.specs.declared.verdict.Verdict as verdict
+use Rattle.request.specs.declared.verdict.Verdict.the-variants.{Refused, Listing}
+use Rattle.request.specs.declared.words.Words as said
+use Rattle.request.specs.declared.words.Words.the-variants.{Wrong, Chosen}
 use Rattle.listing.specs.List.{Ran}
-use Rattle.cli.specs.Verdict.{verdictOf, Judged}
-use Rattle.cli.specs.Words.{wordsOf, WordsRead}
+use Rattle.request.specs.Verdict.{verdictOf, Judged}
+use Rattle.request.specs.Words.{wordsOf, WordsRead}
 use Rattle.listing.proofs.PageByPage.{ran-prints}
 
 -- ---- words and text as they are handed over

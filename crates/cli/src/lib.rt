@@ -1,4 +1,2 @@
-// The program of document 01: its words, its text, and what it prints.
+// The program of document 01: it reads its words and its text, and prints a refusal or all groups and the totals.
 pub mod program;
-pub mod verdict;
-pub mod words;

@@ -3,7 +3,7 @@ use Prim.Native.Nat.{_*_}
 use mathlib.Core.Path.{sym}
 use native.Mathlib.Omega.{arith}
 use lib.Seq.{length-take-le}
-use Rattle.cli.proofs.JudgedText.{graph-fine, small-square}
+use Rattle.request.proofs.JudgedText.{graph-fine, small-square}
 use borrow.Author.Needs.{needs}
 use Rattle.cli.proofs.program.answer.Statement.{statement}
 use Rattle.cli.proofs.program.answer.Tie as tie

@@ -1,5 +1,5 @@
 -- `cli::program::program` is safe: chosen settings have no fault. Assumes nothing.
-use Rattle.cli.proofs.ReadWords.{chosen-proper}
+use Rattle.request.proofs.ReadWords.{chosen-proper}
 use borrow.Author.Needs.{needs}
 use Rattle.cli.proofs.program.program.Statement.{statement}
 use Rattle.cli.proofs.program.program.Tie as tie

@@ -12,9 +12,9 @@ use Rattle.model.specs.Program.{wrong, chosen, bounded, three, settingsOfWords}
 use Rattle.theory.proofs.program.Program.{not-three}
 use Rattle.isolation.specs.Numbers as numbers
 use Rattle.isolation.specs.declared.Settings.{Settings}
-use Rattle.cli.specs.declared.words.Words.{Words}
-use Rattle.cli.specs.declared.words.Words.the-variants.{Wrong, Chosen}
-use Rattle.cli.specs.Words.{Proper, WordsRead}
+use Rattle.request.specs.declared.words.Words.{Words}
+use Rattle.request.specs.declared.words.Words.the-variants.{Wrong, Chosen}
+use Rattle.request.specs.Words.{Proper, WordsRead}
 
 -- ---- what three words say
 

@@ -1,13 +1,13 @@
--- `cli::words::settings_of` meets its contract: each return goes by the tests that led there. Assumes nothing.
+-- `request::words::settings_of` meets its contract: each return goes by the tests that led there. Assumes nothing.
 use native.Mathlib.Omega.{arith}
 use borrow.Author.Needs.{needs}
 use Rattle.model.specs.Text.{numberOf}
 use Rattle.number.specs.declared.Field.the-variants.{Number}
 use Rattle.number.specs.Field.{NumberRead}
 use Rattle.number.proofs.Numbers.{read-as}
-use Rattle.cli.proofs.ReadWords.{read-count, read-first, read-second, read-third, read-bounds, read-chosen}
-use Rattle.cli.proofs.words.settings_of.Statement.{statement}
-use Rattle.cli.proofs.words.settings_of.Tie as tie
+use Rattle.request.proofs.ReadWords.{read-count, read-first, read-second, read-third, read-bounds, read-chosen}
+use Rattle.request.proofs.words.settings_of.Statement.{statement}
+use Rattle.request.proofs.words.settings_of.Tie as tie
 
 -- the numbers that the words were read as
 notion-read : (c : tie.After-notion) → NumberRead (numberOf (c .before .before .before .before .before .before .before .args .a .now)) (Number (c .notion .given .0 .0))

@@ -6,8 +6,8 @@ use lib.ListN.{length}
 use Rattle.model.specs.Calls.{refuseSettings}
 use Rattle.model.specs.Program as program
 use Rattle.isolation.specs.Numbers.{settingsOf}
-use Rattle.cli.specs.declared.words.Words.{Words}
-use Rattle.cli.specs.declared.words.Words.the-variants.{Wrong, Chosen}
+use Rattle.request.specs.declared.words.Words.{Words}
+use Rattle.request.specs.declared.words.Words.the-variants.{Wrong, Chosen}
 
 -- a refusal's number or the settings, as the definition has them
 abbrev pub wordsOf : Words → program.Words

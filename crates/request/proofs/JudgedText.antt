@@ -18,9 +18,9 @@ use Rattle.theory.proofs.program.Program.{by-length, by-text, by-refusal, by-gr
 use Rattle.graph.proofs.Refusals.{table-accepted}
 use Rattle.dimacs.specs.declared.TextAnswer.{TextAnswer}
 use Rattle.dimacs.specs.Reply.{TextReplies}
-use Rattle.cli.specs.declared.verdict.Verdict.{Verdict}
-use Rattle.cli.specs.declared.verdict.Verdict.the-variants.{Refused, Listing}
-use Rattle.cli.specs.Verdict.{Fine, Judged}
+use Rattle.request.specs.declared.verdict.Verdict.{Verdict}
+use Rattle.request.specs.declared.verdict.Verdict.the-variants.{Refused, Listing}
+use Rattle.request.specs.Verdict.{Fine, Judged}
 
 below-257 : (n : ℕ) → n * n ≤ 65536 → n ≤ 256
 below-257 n h = go (ltb n 257) refl

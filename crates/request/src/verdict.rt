@@ -2,7 +2,7 @@
 ghost use mathlib.Core.Path.{_≡_};
 ghost use lib.ListN.{replicate};
 ghost use lib.Dec.{ltb};
-ghost use Rattle.cli.specs.Verdict.{Judged};
+ghost use Rattle.request.specs.Verdict.{Judged};
 
 // A refusal's number and line, or the number of vertices of the graph to list.
 pub enum Verdict {

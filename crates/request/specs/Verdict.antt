@@ -6,8 +6,8 @@ use lib.ListN.{length, take}
 use Rattle.model.specs.Groups.{Settings}
 use Rattle.model.specs.Calls.{refuseTable}
 use Rattle.model.specs.Program as program
-use Rattle.cli.specs.declared.verdict.Verdict.{Verdict}
-use Rattle.cli.specs.declared.verdict.Verdict.the-variants.{Refused, Listing}
+use Rattle.request.specs.declared.verdict.Verdict.{Verdict}
+use Rattle.request.specs.declared.verdict.Verdict.the-variants.{Refused, Listing}
 
 -- the refusal, or the settings with the graph of the first n × n bytes of the table
 abbrev pub verdictOf : Settings → Verdict → List ℕ → program.Verdict

@@ -1,5 +1,5 @@
 // The program's words: notion, kind and factor.
-ghost use Rattle.cli.specs.Words.{WordsRead};
+ghost use Rattle.request.specs.Words.{WordsRead};
 use isolation::Settings;
 use number::Field;
 use number::number;

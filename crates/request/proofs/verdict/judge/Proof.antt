@@ -1,12 +1,12 @@
--- `cli::verdict::judge` meets its contract. Assumes nothing.
+-- `request::verdict::judge` meets its contract. Assumes nothing.
 use mathlib.Core.Path.{_≡_, sym, _∙_}
 use mathlib.Core.Bool.{false}
 use lib.ListN.{length}
 use lib.Dec.{ltb}
-use Rattle.cli.proofs.JudgedText.{judged-long, judged-refused, judged-graph}
+use Rattle.request.proofs.JudgedText.{judged-long, judged-refused, judged-graph}
 use borrow.Author.Needs.{needs}
-use Rattle.cli.proofs.verdict.judge.Statement.{statement}
-use Rattle.cli.proofs.verdict.judge.Tie as tie
+use Rattle.request.proofs.verdict.judge.Statement.{statement}
+use Rattle.request.proofs.verdict.judge.Tie as tie
 
 returns : tie.Need-returns
 returns c = judged-long (sym (c .before .text-too-long .ensures) ∙ c .if1 .taken)
