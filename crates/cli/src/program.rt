@@ -5,16 +5,16 @@ ghost use lib.ListN.{length};
 ghost use Rattle.model.specs.Calls.{refuseSettings};
 ghost use Rattle.isolation.specs.Numbers.{settingsOf};
 ghost use Rattle.listing.specs.List.{Listable};
-use request::verdict::Verdict;
-use request::verdict::judge;
-use request::words::Words;
-use request::words::settings_of;
 use isolation::Settings;
 use libc::STDIN_FILENO;
 use listing::list_all;
 use listing::write_first;
 use print::end_line;
 use print::refused_line;
+use request::verdict::Verdict;
+use request::verdict::judge;
+use request::words::Words;
+use request::words::settings_of;
 
 // Room for the output of a page, for the work slice of 256 vertices, and for what is printed of a page.
 fn output_room() -> [u16; 8192]

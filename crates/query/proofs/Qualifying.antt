@@ -29,9 +29,10 @@ use Rattle.isolation.specs.declared.Tally.{Tally}
 use Rattle.isolation.specs.Numbers.{settingsOf, Small, isolatedOf, beatenOf, TallyOf}
 use Rattle.theory.specs.Parts.{part, Filled}
 use Rattle.larger.specs.Search.{Lent, Posed, Tested}
-use Rattle.query.specs.Query.{HoldsMembers, pairwise, Tallies, QueryReady, Decided}
+use Rattle.members.specs.Members.{HoldsMembers, pairwise, Tallies}
+use Rattle.query.specs.Query.{QueryReady, Decided}
 use Rattle.theory.proofs.basics.Parts.{part-length, part-at}
-use Rattle.query.proofs.Members.{clique-test}
+use Rattle.members.proofs.Listed.{clique-test}
 use Rattle.isolation.proofs.Refusals.{QueryAccepted, query-accepted}
 
 -- the vertices that pass a set's test are its members

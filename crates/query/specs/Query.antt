@@ -1,37 +1,20 @@
 -- The set query's answer, and what its steps give.
 -- Assumes nothing.
-use Prim.Native.Nat.{ℕ, _*_, _≤_}
+use Prim.Native.Nat.{ℕ}
 use mathlib.Core.Path.{_≡_}
 use mathlib.Core.Bool.{Bool}
 use mathlib.Core.List.{List}
 use mathlib.Core.Logic.{_≢_}
-use lib.ListN.{length, getD, take}
-use Rattle.model.specs.Below.{bit, all}
-use Rattle.model.specs.Graph.{Graph, byTable}
-use Rattle.model.specs.Groups.{settings, VertexSet, qualifies}
+use lib.ListN.{length}
+use Rattle.model.specs.Below.{bit}
+use Rattle.model.specs.Graph.{byTable}
+use Rattle.model.specs.Groups.{settings, qualifies}
 use Rattle.model.specs.Groups as groups
-use Rattle.theory.specs.Parts.{HoldsVertices}
-use Rattle.theory.specs.Search.{joinedAll, Members}
 use Rattle.model.specs.Calls.{byBytes, refuseQuery, query}
 use Rattle.graph.specs.Ranks.{RanksFit, HoldsDegrees}
 use Rattle.isolation.specs.declared.Settings.{Settings}
-use Rattle.isolation.specs.declared.Tally.{Tally}
 use Rattle.query.specs.declared.SetAnswer.{SetAnswer}
-use Rattle.isolation.specs.Numbers.{settingsOf, TallyOf}
-
--- the work slice has the parts 0 to 3, and the first k entries of part 1 are vertices of a graph of n
-pub record HoldsMembers (n : ℕ) (w : List ℕ) (k : ℕ) : Type 0 where
-  pub few : k ≤ n
-  pub parts : 4 * n ≤ length w
-  pub vertices : HoldsVertices n w n k
-
--- each vertex of the list is joined to all before it
-unfoldable pub pairwise : Graph → List ℕ → Bool
-pairwise G us = all (length us) (λ i. joinedAll G (getD us i 0) (take i us))
-
--- y holds the numbers of every set with these members, in every graph of n vertices whose degrees the ranks hold
-abbrev pub Tallies : ℕ → List ℕ → List ℕ → Tally → Type 0
-Tallies n ranks us y = (G : Graph) → G .size ≡ n → HoldsDegrees n G ranks → (S : VertexSet) → Members G S us → TallyOf G S y
+use Rattle.isolation.specs.Numbers.{settingsOf}
 
 -- the call is accepted, and the ranks hold the degrees
 pub record QueryReady (n : ℕ) (t ranks bs w : List ℕ) (s : Settings) : Type 0 where

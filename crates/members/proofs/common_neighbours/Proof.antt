@@ -1,4 +1,4 @@
--- `query::common_neighbours` meets its contract: those of the passed vertices that are joined to every member stand in part 3.
+-- `members::common_neighbours` meets its contract: those of the passed vertices that are joined to every member stand in part 3.
 -- Assumes nothing.
 use Prim.Native.Nat.{_+_, _-_, _*_, _≤_}
 use mathlib.Core.Path.{sym, ap, _∙_}
@@ -10,8 +10,8 @@ use Rattle.theory.specs.Search.{joinedAll}
 use Rattle.theory.specs.Parts.{part, Filled}
 use Rattle.theory.proofs.basics.Parts.{same-members, filled-same, filled-none, filled-push, filled-pass}
 use Rattle.theory.proofs.basics.Passing.{passing-none, passing-hit, passing-miss, passing-end}
-use Rattle.query.proofs.common_neighbours.Statement.{statement}
-use Rattle.query.proofs.common_neighbours.Tie as tie
+use Rattle.members.proofs.common_neighbours.Statement.{statement}
+use Rattle.members.proofs.common_neighbours.Tie as tie
 
 abbrev Inv-loop : tie.InvT-loop
 Inv-loop table n work₀ k end m₀ v₀ work m v = (v ≤ n) × (m ≤ v) × Filled (3 * n) (3 * n + n) (passing v (λ u. joinedAll (byTable n table) u (part work₀ n k))) work₀ work m

@@ -21,7 +21,7 @@ use Rattle.graph.specs.Ranks.{HoldsDegrees}
 use Rattle.isolation.specs.declared.Tally.{Tally}
 use Rattle.isolation.specs.Numbers.{withMember, TallyOf}
 use Rattle.theory.specs.Parts.{part}
-use Rattle.query.specs.Query.{HoldsMembers, pairwise, Tallies}
+use Rattle.members.specs.Members.{HoldsMembers, pairwise, Tallies}
 use Rattle.theory.proofs.basics.Parts.{part-length, part-at, part-take}
 
 -- ---- pairwise joined

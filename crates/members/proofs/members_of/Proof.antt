@@ -1,4 +1,4 @@
--- `query::members_of` meets its contract: the members that were passed stand in part 1.
+-- `members::members_of` meets its contract: the members that were passed stand in part 1.
 -- Assumes nothing.
 use Prim.Native.Nat.{_+_, _-_, _≤_}
 use mathlib.Core.Logic.{⊎-elim}
@@ -9,8 +9,8 @@ use Rattle.model.specs.Listing.{is}
 use Rattle.theory.specs.Parts.{Filled}
 use Rattle.theory.proofs.basics.Parts.{filled-same, filled-none, filled-push, filled-pass}
 use Rattle.theory.proofs.basics.Passing.{passing-none, passing-hit, passing-miss, passing-end}
-use Rattle.query.proofs.members_of.Statement.{statement}
-use Rattle.query.proofs.members_of.Tie as tie
+use Rattle.members.proofs.members_of.Statement.{statement}
+use Rattle.members.proofs.members_of.Tie as tie
 
 abbrev Inv-loop : tie.InvT-loop
 Inv-loop set n work₀ k₀ v₀ work k v = (v ≤ n) × (k ≤ v) × Filled n (n + n) (passing v (is 1 set)) work₀ work k

@@ -1,4 +1,4 @@
--- `query::pairwise_joined` meets its contract: each member that was passed is joined to all before it.
+-- `members::pairwise_joined` meets its contract: each member that was passed is joined to all before it.
 -- Assumes nothing.
 use Prim.Native.Nat.{_+_, _-_, _≤_}
 use mathlib.Core.Path.{_≡_, sym, _∙_}
@@ -8,9 +8,9 @@ use borrow.Author.Tests.{not-true, not-false}
 use Rattle.model.specs.Below.{all}
 use Rattle.model.specs.Graph.{byTable}
 use Rattle.theory.specs.Parts.{part}
-use Rattle.query.proofs.Members.{joins-before, pairs-none, pairs-more, pairs-apart, pairs-all}
-use Rattle.query.proofs.pairwise_joined.Statement.{statement}
-use Rattle.query.proofs.pairwise_joined.Tie as tie
+use Rattle.members.proofs.Listed.{joins-before, pairs-none, pairs-more, pairs-apart, pairs-all}
+use Rattle.members.proofs.pairwise_joined.Statement.{statement}
+use Rattle.members.proofs.pairwise_joined.Tie as tie
 
 abbrev Inv-loop : tie.InvT-loop
 Inv-loop table n work k i₀ i = (i ≤ k) × (all i (joins-before (byTable n table) (part work n k)) ≡ true)

@@ -1,4 +1,4 @@
--- `query::tally_of` meets its contract: after i members the numbers are those of the first i.
+-- `members::tally_of` meets its contract: after i members the numbers are those of the first i.
 -- Assumes nothing.
 use Prim.Native.Nat.{_+_, _-_, _*_, _≤_, _<_}
 use mathlib.Core.Path.{_≡_, ap}
@@ -6,9 +6,9 @@ use native.Mathlib.Omega.{arith}
 use lib.ListN.{getD}
 use Rattle.isolation.specs.declared.Tally.{Tally}
 use Rattle.theory.specs.Parts.{part}
-use Rattle.query.proofs.Members.{TalliesFirst, tallies-none, tallies-more, tallies-all}
-use Rattle.query.proofs.tally_of.Statement.{statement}
-use Rattle.query.proofs.tally_of.Tie as tie
+use Rattle.members.proofs.Listed.{TalliesFirst, tallies-none, tallies-more, tallies-all}
+use Rattle.members.proofs.tally_of.Statement.{statement}
+use Rattle.members.proofs.tally_of.Tie as tie
 
 abbrev Inv-loop : tie.InvT-loop
 Inv-loop ranks n work k y₀ i₀ y i = (i ≤ k) × (y .members ≡ i) × (y .sum ≤ 65535 * i) × TalliesFirst n ranks (part work n k) i y

@@ -1,0 +1,2 @@
+-- The laws of members that are listed.
+pub mod Listed

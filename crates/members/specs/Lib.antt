@@ -1,0 +1,2 @@
+-- The members of a set in the work slice.
+pub mod Members

@@ -1,0 +1,89 @@
+// The members of a set that is lent as bytes: listed in the work slice, whether they are pairwise joined, their numbers and their common neighbours.
+ghost use mathlib.Core.Path.{_≡_};
+ghost use Prim.Native.Nat.{_+_, _*_, _≤_};
+ghost use lib.ListN.{length};
+ghost use Rattle.model.specs.Below.{passing};
+ghost use Rattle.model.specs.Graph.{byTable};
+ghost use Rattle.model.specs.Listing.{is};
+ghost use Rattle.theory.specs.Search.{joinedAll};
+ghost use Rattle.graph.specs.Table.{TableFits};
+ghost use Rattle.graph.specs.Ranks.{RanksFit};
+ghost use Rattle.theory.specs.Parts.{part, Filled};
+ghost use Rattle.members.specs.Members.{HoldsMembers, pairwise, Tallies};
+use isolation::Tally;
+use isolation::with_member;
+use larger::joined_to_all;
+
+// Writes the vertices of n whose byte in set is 1 into part 1 of work, lowest first, and nothing else of it, and gives how many they are. Reads set.
+pub fn members_of(set: &[u8], n: usize, work: &mut [u16]) -> usize
+    requires { ⌜ RanksFit n (now work) × (length (now set) ≡ n) ⌝ }
+    ensures { λ k. ⌜ Filled n (n + n) (passing n (is 1 (now (set .entry)))) (now (work .entry)) (now (work .exit)) k × (k ≤ n) ⌝ }
+{
+    let mut k: usize = 0;
+    let mut v = 0;
+    while v < n {
+        if set[v] == 1 {
+            work[n + k] = v as u16;
+            k += 1;
+        }
+        v += 1;
+    }
+    k
+}
+
+// Whether the k members in part 1 of work are pairwise joined: each is joined to all before it. Reads the table and the members.
+pub fn pairwise_joined(table: &[u8], n: usize, work: &[u16], k: usize) -> bool
+    requires { ⌜ TableFits n (now table) × HoldsMembers n (now work) k ⌝ }
+    ensures { λ r. ⌜ r ≡ pairwise (byTable n (now (table .entry))) (part (now (work .entry)) n k) ⌝ }
+{
+    let mut i = 0;
+    while i < k {
+        let end = n + i;
+        let v = work[end] as usize;
+        if !joined_to_all(table, n, work, v, n, end) {
+            return false;
+        }
+        i += 1;
+    }
+    true
+}
+
+// The numbers of the set whose k members stand in part 1 of work, by the degrees in part 1 of ranks; n is the number of vertices. Reads both.
+pub fn tally_of(ranks: &[u16], n: usize, work: &[u16], k: usize) -> Tally
+    requires { ⌜ RanksFit n (now ranks) × HoldsMembers n (now work) k ⌝ }
+    ensures { λ y. ⌜ Tallies n (now (ranks .entry)) (part (now (work .entry)) n k) y ⌝ }
+{
+    let mut y = Tally {
+        members: 0,
+        sum: 0,
+        least: n,
+        largest: 0,
+    };
+    let mut i = 0;
+    while i < k {
+        let v = work[n + i] as usize;
+        let d = ranks[n + v] as usize;
+        y = with_member(y, d);
+        i += 1;
+    }
+    y
+}
+
+// Writes the vertices that are joined to each of the k members in part 1 of work into part 3, lowest first, and nothing else of work, and gives how
+// many they are; with no loops in the graph they are the members' common neighbours. Reads the table at the members.
+pub fn common_neighbours(table: &[u8], n: usize, work: &mut [u16], k: usize) -> usize
+    requires { ⌜ TableFits n (now table) × HoldsMembers n (now work) k ⌝ }
+    ensures { λ m. ⌜ Filled (3 * n) (3 * n + n) (passing n (λ v. joinedAll (byTable n (now (table .entry))) v (part (now (work .entry)) n k))) (now (work .entry)) (now (work .exit)) m × (m ≤ n) ⌝ }
+{
+    let end = n + k;
+    let mut m: usize = 0;
+    let mut v = 0;
+    while v < n {
+        if joined_to_all(table, n, work, v, n, end) {
+            work[3 * n + m] = v as u16;
+            m += 1;
+        }
+        v += 1;
+    }
+    m
+}
