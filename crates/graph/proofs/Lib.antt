@@ -1,3 +1,3 @@
--- The laws that the proofs of this crate cite.
+-- The table of a graph, and its refusals.
+pub mod Table
 pub mod Refusals
-pub mod Ranks

@@ -1,3 +1,2 @@
--- What the functions over the byte table require and leave behind: the table, and the slice of degrees and ranks.
+-- What the functions over the byte table require.
 pub mod Table
-pub mod Ranks

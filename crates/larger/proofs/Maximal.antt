@@ -13,7 +13,7 @@ use Rattle.model.specs.Graph.{Graph, byTable, degree}
 use Rattle.model.specs.Groups.{VertexSet, sizeOf}
 use Rattle.theory.specs.Search.{gather, degreeSum, findLarger, searched, beaten}
 use Rattle.theory.proofs.search.Cut.{search-cut}
-use Rattle.graph.proofs.Ranks.{table-size, degree-le}
+use Rattle.graph.proofs.Table.{table-size, degree-le}
 use Rattle.isolation.specs.declared.Settings.{Settings}
 use Rattle.isolation.specs.declared.Tally.{Tally}
 use Rattle.isolation.specs.Numbers.{findOf, beatenOf}

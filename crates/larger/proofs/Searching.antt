@@ -12,7 +12,7 @@ use Rattle.model.specs.Graph.{Graph, byTable, degree}
 use Rattle.theory.specs.Search.{joinedAll}
 use Rattle.theory.proofs.basics.Tests.{trichotomy}
 use Rattle.theory.proofs.search.Steps.{cut-end, cut-hopeless, cut-apart, cut-here, cut-deeper, cut-next}
-use Rattle.graph.proofs.Ranks.{degree-le}
+use Rattle.graph.proofs.Table.{degree-le}
 use Rattle.isolation.specs.declared.Settings.{Settings}
 use Rattle.isolation.specs.declared.Tally.{Tally}
 use Rattle.isolation.specs.Numbers.{withMember, isolatedOf, hopelessOf, findOf}

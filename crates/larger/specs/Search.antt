@@ -10,7 +10,7 @@ use Rattle.model.specs.Groups.{VertexSet}
 use Rattle.model.specs.Meaning.{Clique}
 use Rattle.theory.specs.Search.{Loopless, Symmetric, Candidates}
 use Rattle.graph.specs.Table.{TableFits}
-use Rattle.graph.specs.Ranks.{RanksFit, HoldsDegrees}
+use Rattle.ranks.specs.Ranks.{RanksFit, HoldsDegrees}
 use Rattle.isolation.specs.declared.Settings.{Settings}
 use Rattle.isolation.specs.declared.Tally.{Tally}
 use Rattle.isolation.specs.Numbers.{findOf, beatenOf, TallyOf}

@@ -17,7 +17,7 @@ use Rattle.theory.specs.Search.{Symmetric, joinedAll, among, Members}
 use Rattle.theory.proofs.basics.Tests.{Test, test-all, test-self, trichotomy, fails}
 use Rattle.theory.proofs.search.Candidates.{joined-test}
 use Rattle.theory.proofs.search.Members.{tally-none, tally-next, tally-all}
-use Rattle.graph.specs.Ranks.{HoldsDegrees}
+use Rattle.ranks.specs.Ranks.{HoldsDegrees}
 use Rattle.isolation.specs.declared.Tally.{Tally}
 use Rattle.isolation.specs.Numbers.{withMember, TallyOf}
 use Rattle.theory.specs.Parts.{part}

@@ -11,7 +11,7 @@ use Rattle.model.specs.Groups.{VertexSet}
 use Rattle.model.specs.Groups as groups
 use Rattle.theory.specs.Parts.{HoldsVertices}
 use Rattle.theory.specs.Search.{joinedAll, Members}
-use Rattle.graph.specs.Ranks.{HoldsDegrees}
+use Rattle.ranks.specs.Ranks.{HoldsDegrees}
 use Rattle.isolation.specs.declared.Tally.{Tally}
 use Rattle.isolation.specs.Numbers.{TallyOf}
 

@@ -7,7 +7,7 @@ ghost use Rattle.model.specs.Graph.{byTable};
 ghost use Rattle.model.specs.Listing.{is};
 ghost use Rattle.theory.specs.Search.{joinedAll};
 ghost use Rattle.graph.specs.Table.{TableFits};
-ghost use Rattle.graph.specs.Ranks.{RanksFit};
+ghost use Rattle.ranks.specs.Ranks.{RanksFit};
 ghost use Rattle.theory.specs.Parts.{part, Filled};
 ghost use Rattle.members.specs.Members.{HoldsMembers, pairwise, Tallies};
 use isolation::Tally;

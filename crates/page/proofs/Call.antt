@@ -12,7 +12,7 @@ use Rattle.model.specs.Walk.{Position, page}
 use Rattle.model.specs.Listing.{rules}
 use Rattle.model.specs.Calls.{refusePosition, refusePage, replyOf, pageCall}
 use Rattle.graph.specs.Table.{TableFits}
-use Rattle.graph.specs.Ranks.{RanksFit, Prepared, HoldsRanks}
+use Rattle.ranks.specs.Ranks.{RanksFit, Prepared, HoldsRanks}
 use Rattle.isolation.specs.declared.Settings as isolation
 use Rattle.isolation.specs.Numbers.{settingsOf}
 use Rattle.state.specs.declared.State.{State}

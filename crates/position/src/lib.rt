@@ -8,7 +8,7 @@ ghost use Rattle.model.specs.Graph.{byTable};
 ghost use Rattle.model.specs.Groups.{Settings};
 ghost use Rattle.model.specs.Listing.{is, adjacent, apart, leftNeighbours, dead, rules};
 ghost use Rattle.model.specs.Calls.{gap, refusePosition};
-ghost use Rattle.graph.specs.Ranks.{HoldsRanks};
+ghost use Rattle.ranks.specs.Ranks.{HoldsRanks};
 ghost use Rattle.position.specs.Position.{stranger, apartAt, leftNeighbour};
 use graph::any_over;
 use graph::entry_at;

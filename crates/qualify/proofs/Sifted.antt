@@ -13,7 +13,7 @@ use Rattle.theory.specs.Search.{joinedAll}
 use Rattle.theory.specs.Parts.{part, Kept, HoldsVertices, Filled}
 use Rattle.theory.proofs.basics.Parts.{part-length, part-at, same-members, filled-none, filled-push, filled-pass}
 use Rattle.theory.proofs.basics.Passing.{map-at}
-use Rattle.graph.proofs.Ranks.{entry-below}
+use Rattle.ranks.proofs.Ranks.{entry-below}
 use Rattle.qualify.specs.Qualify.{joinedOf, Sifts, Sifted}
 
 -- a vertex at the end of a list is among those joined to all where it is joined to all

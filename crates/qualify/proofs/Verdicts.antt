@@ -17,7 +17,7 @@ use Rattle.theory.specs.Search.{Loopless, Symmetric, Candidates}
 use Rattle.theory.proofs.basics.Tests.{test-and, test-self, fails}
 use Rattle.theory.proofs.basics.Passing.{passing-listed}
 use Rattle.theory.proofs.basics.PassingParts.{passing-count}
-use Rattle.graph.proofs.Ranks.{table-size}
+use Rattle.graph.proofs.Table.{table-size}
 use Rattle.graph.proofs.Refusals.{table-accepted}
 use Rattle.isolation.specs.declared.Settings.{Settings}
 use Rattle.isolation.specs.declared.Tally.{Tally}

@@ -10,7 +10,7 @@ use Rattle.model.specs.Walk.{Position, found}
 use Rattle.model.specs.Listing.{takenList, rules}
 use Rattle.model.specs.Calls.{refuseTable}
 use Rattle.theory.specs.Search.{joinedAll}
-use Rattle.graph.specs.Ranks.{HoldsRanks}
+use Rattle.ranks.specs.Ranks.{HoldsRanks}
 use Rattle.isolation.specs.declared.Settings.{Settings}
 use Rattle.isolation.specs.declared.Tally.{Tally}
 use Rattle.isolation.specs.Numbers.{settingsOf}

@@ -22,8 +22,8 @@ use Rattle.theory.proofs.basics.Passing.{passing-listed, passing-has, passing-o
 use Rattle.theory.proofs.basics.PassingParts.{passing-same, passing-count}
 use Rattle.theory.proofs.search.Members.{common-list}
 use Rattle.theory.proofs.search.Maximal.{qualifies-tally}
-use Rattle.graph.specs.Ranks.{RanksFit}
-use Rattle.graph.proofs.Ranks.{table-size}
+use Rattle.ranks.specs.Ranks.{RanksFit}
+use Rattle.graph.proofs.Table.{table-size}
 use Rattle.isolation.specs.declared.Settings.{Settings}
 use Rattle.isolation.specs.declared.Tally.{Tally}
 use Rattle.isolation.specs.Numbers.{settingsOf, Small, isolatedOf, beatenOf, TallyOf}

@@ -11,7 +11,7 @@ use Rattle.model.specs.Graph.{byTable}
 use Rattle.model.specs.Groups.{settings, qualifies}
 use Rattle.model.specs.Groups as groups
 use Rattle.model.specs.Calls.{byBytes, refuseQuery, query}
-use Rattle.graph.specs.Ranks.{RanksFit, HoldsDegrees}
+use Rattle.ranks.specs.Ranks.{RanksFit, HoldsDegrees}
 use Rattle.isolation.specs.declared.Settings.{Settings}
 use Rattle.query.specs.declared.SetAnswer.{SetAnswer}
 use Rattle.isolation.specs.Numbers.{settingsOf}

@@ -96,7 +96,7 @@ pub fn set_query(
         return SetAnswer { refusal, yes: 0 };
     }
     let mut ranks = [0u16; 2048];
-    graph::fill_degrees(table, n, &mut ranks);
+    ranks::fill_degrees(table, n, &mut ranks);
     if set_qualifies(table, &ranks, set, work, n, s) {
         return SetAnswer { refusal: 0, yes: 1 };
     }

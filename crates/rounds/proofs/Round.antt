@@ -11,7 +11,7 @@ use Rattle.model.specs.Graph.{byTable}
 use Rattle.model.specs.Walk.{Position, Rules, finished, step, found, page}
 use Rattle.model.specs.Listing.{rules}
 use Rattle.model.specs.Calls.{replyOf}
-use Rattle.graph.proofs.Ranks.{table-size}
+use Rattle.graph.proofs.Table.{table-size}
 use Rattle.isolation.specs.declared.Settings.{Settings}
 use Rattle.isolation.specs.Numbers.{settingsOf}
 use Rattle.state.specs.declared.State.{State}

@@ -15,8 +15,9 @@ use Rattle.model.specs.Listing.{adjacent, pivot, apart, takenList}
 use Rattle.theory.proofs.basics.Tests.{any-same, last-or-below, lt-or-ge, trichotomy}
 use Rattle.theory.proofs.basics.Parts.{part-push, part-before, part-after, part-below, kept-none}
 use Rattle.theory.specs.Parts.{part, Filled}
-use Rattle.graph.proofs.Ranks.{table-size, entry-below}
-use Rattle.graph.specs.Ranks.{HoldsRanks}
+use Rattle.graph.proofs.Table.{table-size}
+use Rattle.ranks.proofs.Ranks.{entry-below}
+use Rattle.ranks.specs.Ranks.{HoldsRanks}
 use Rattle.state.specs.State.{takenRanks, leftRanks, degreesOf, Stands, StandsForOne}
 use Rattle.state.specs.NextRank.{Decides, Pushed, LeftOnceTaken}
 use Rattle.state.specs.declared.State.{State}

@@ -20,8 +20,8 @@ use Rattle.theory.proofs.basics.PassingParts.{passing-count}
 use Rattle.theory.proofs.graph.Factor.{at-least}
 use Rattle.theory.proofs.graph.Ranks.{vertex-at}
 use Rattle.theory.proofs.walk.Moves.{has-found, has-none, finished-is}
-use Rattle.graph.proofs.Ranks.{table-size, degree-le}
-use Rattle.graph.specs.Ranks.{HoldsRanks}
+use Rattle.graph.proofs.Table.{table-size, degree-le}
+use Rattle.ranks.specs.Ranks.{HoldsRanks}
 use Rattle.state.specs.State.{takenRanks, leftOfPivot, leftRanks, Stands, StandsForOne}
 use Rattle.state.specs.declared.State.{State}
 use Rattle.state.proofs.Taken.{taken-list, taken-length, taken-at, taken-has, untaken-has, pivot-first, apart-none, degrees-bound}

@@ -7,7 +7,7 @@ ghost use lib.ListN.{length, getD};
 ghost use Rattle.model.specs.Below.{any};
 ghost use Rattle.model.specs.Graph.{byTable};
 ghost use Rattle.model.specs.Calls.{over, gap};
-ghost use Rattle.graph.specs.Ranks.{HoldsRanks};
+ghost use Rattle.ranks.specs.Ranks.{HoldsRanks};
 ghost use Rattle.state.specs.State.{Stands, StandsForOne, SaysFinished, SaysDead};
 ghost use Rattle.state.specs.NextRank.{Pushed, Misses, LeftOnceTaken};
 use graph::entry_at;

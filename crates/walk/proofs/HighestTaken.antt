@@ -22,8 +22,8 @@ use Rattle.theory.proofs.calls.DeadPosition.{below-pivot}
 use Rattle.theory.proofs.walk.Moves.{retreat-is}
 use Rattle.theory.proofs.walk.Remaining.{open-zero, fresh-open, retreat-length}
 use Rattle.theory.specs.Parts.{part}
-use Rattle.graph.proofs.Ranks.{table-size}
-use Rattle.graph.specs.Ranks.{HoldsRanks}
+use Rattle.graph.proofs.Table.{table-size}
+use Rattle.ranks.specs.Ranks.{HoldsRanks}
 use Rattle.state.specs.State.{takenRanks, leftOfPivot, leftRanks, degreesOf, Stands}
 use Rattle.state.specs.NextRank.{Decides, RanksOpened}
 use Rattle.walk.specs.Walk.{Trimmed}

@@ -16,7 +16,7 @@ use Rattle.theory.proofs.walk.Walk.{step-down, step-up}
 use Rattle.theory.proofs.calls.PageAccepted.{refuse-pass}
 use Rattle.theory.proofs.calls.Pages.{table-lawful}
 use Rattle.theory.proofs.walk.Moves.{step-accepted}
-use Rattle.graph.proofs.Ranks.{table-size}
+use Rattle.graph.proofs.Table.{table-size}
 use Rattle.state.specs.State.{Stands}
 use Rattle.walk.specs.Walk.{rulesAt, Walking, Moved, Stepped}
 use Rattle.state.specs.declared.State.{State}

@@ -9,7 +9,7 @@ use Rattle.model.specs.Groups.{Factor}
 use Rattle.model.specs.Walk.{Position, Rules, step}
 use Rattle.model.specs.Listing.{rules}
 use Rattle.model.specs.Calls.{refuseTable, refusePosition}
-use Rattle.graph.specs.Ranks.{HoldsRanks}
+use Rattle.ranks.specs.Ranks.{HoldsRanks}
 use Rattle.state.specs.State.{Stands}
 use Rattle.state.specs.declared.State.{State}
 

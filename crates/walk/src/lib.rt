@@ -8,7 +8,7 @@ ghost use Rattle.model.specs.Graph.{byTable};
 ghost use Rattle.model.specs.Walk.{finished, advance, retreat};
 ghost use Rattle.model.specs.Listing.{apart};
 ghost use Rattle.model.specs.Calls.{reopened};
-ghost use Rattle.graph.specs.Ranks.{HoldsRanks};
+ghost use Rattle.ranks.specs.Ranks.{HoldsRanks};
 ghost use Rattle.state.specs.State.{Stands};
 ghost use Rattle.state.specs.NextRank.{RanksOpened};
 ghost use Rattle.walk.specs.Walk.{Trimmed, Moved, Walking, Stepped};

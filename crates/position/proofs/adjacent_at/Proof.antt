@@ -2,7 +2,7 @@
 -- Assumes nothing.
 use mathlib.Core.Path.{_∙_}
 use native.Mathlib.Omega.{arith}
-use Rattle.graph.proofs.Ranks.{entry-below, entries-adjacent}
+use Rattle.ranks.proofs.Ranks.{entry-below, entries-adjacent}
 use borrow.Author.Needs.{needs}
 use Rattle.position.proofs.adjacent_at.Statement.{statement}
 use Rattle.position.proofs.adjacent_at.Tie as tie

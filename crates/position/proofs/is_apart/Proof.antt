@@ -7,7 +7,7 @@ use native.Mathlib.Omega.{arith}
 use lib.ListN.{length}
 use borrow.Author.Count.{below-more}
 use Rattle.model.specs.Graph.{byTable}
-use Rattle.graph.proofs.Ranks.{table-size}
+use Rattle.graph.proofs.Table.{table-size}
 use Rattle.position.specs.Position.{apartAt}
 use Rattle.position.proofs.Refusals.{apart-found, apart-none}
 use borrow.Author.Needs.{needs}

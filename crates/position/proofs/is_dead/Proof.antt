@@ -9,7 +9,7 @@ use Rattle.model.specs.Below.{least}
 use Rattle.model.specs.Groups.{within}
 use Rattle.model.specs.Listing.{is}
 use Rattle.theory.proofs.walk.Scans.{least-le, dead-apart, dead-untaken, dead-lost}
-use Rattle.graph.proofs.Ranks.{table-size}
+use Rattle.graph.proofs.Table.{table-size}
 use Rattle.theory.proofs.graph.Factor.{at-least}
 use borrow.Author.Needs.{needs}
 use Rattle.position.proofs.is_dead.Statement.{statement}

@@ -10,7 +10,7 @@ use Rattle.model.specs.Below.{count}
 use Rattle.model.specs.Graph.{byTable}
 use Rattle.theory.proofs.basics.Tests.{count-none, count-hit, count-miss}
 use Rattle.theory.proofs.walk.Scans.{left-within}
-use Rattle.graph.proofs.Ranks.{table-size}
+use Rattle.graph.proofs.Table.{table-size}
 use Rattle.position.specs.Position.{leftNeighbour}
 use borrow.Author.Needs.{needs}
 use Rattle.position.proofs.left_of_pivot.Statement.{statement}

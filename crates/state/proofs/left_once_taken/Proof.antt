@@ -10,7 +10,7 @@ use Rattle.model.specs.Listing.{adjacent}
 use Rattle.theory.specs.Parts.{Filled}
 use Rattle.theory.proofs.basics.Parts.{filled-none, filled-push, filled-pass, filled-same}
 use Rattle.theory.proofs.basics.Passing.{passing-none, passing-hit, passing-miss}
-use Rattle.graph.proofs.Ranks.{entry-below, entries-adjacent}
+use Rattle.ranks.proofs.Ranks.{entry-below, entries-adjacent}
 use Rattle.state.proofs.StandsFor.{enough}
 use Rattle.state.proofs.RankPushed.{left-stays, left-found}
 use borrow.Author.Needs.{needs}

@@ -2,7 +2,7 @@
 -- Assumes nothing.
 use mathlib.Core.Path.{sym, _∙_}
 use native.Mathlib.Omega.{arith}
-use Rattle.graph.proofs.Ranks.{entry-below}
+use Rattle.ranks.proofs.Ranks.{entry-below}
 use Rattle.state.proofs.StandsFor.{enough, first-low}
 use Rattle.state.proofs.RankPushed.{neighbour-pushed, other-pushed}
 use borrow.Author.Needs.{needs}

@@ -2,7 +2,7 @@
 -- Assumes nothing.
 use native.Mathlib.Omega.{arith}
 use lib.ListN.{length-set}
-use Rattle.graph.proofs.Ranks.{entry-below}
+use Rattle.ranks.proofs.Ranks.{entry-below}
 use Rattle.state.proofs.StandsFor.{enough, taken-low, degree-read, sum-small}
 use Rattle.state.proofs.RankPushed.{taken-pushed}
 use borrow.Author.Needs.{needs}

@@ -6,7 +6,7 @@ use mathlib.Core.Logic.{_≢_}
 use native.Mathlib.Omega.{arith}
 use lib.ListN.{length, getD, List·getD-eq-default}
 use Rattle.model.specs.Graph.{byTable}
-use Rattle.graph.proofs.Ranks.{table-size}
+use Rattle.graph.proofs.Table.{table-size}
 use Rattle.state.specs.State.{Stands}
 use Rattle.state.proofs.Opened.{opened, fresh-stands, opened-decides, stands-whole, gapless, bytes-most}
 use borrow.Author.Needs.{needs}

@@ -3,7 +3,7 @@
 use mathlib.Core.Path.{_∙_}
 use native.Mathlib.Omega.{arith}
 use lib.ListN.{length-set}
-use Rattle.graph.proofs.Ranks.{table-size}
+use Rattle.graph.proofs.Table.{table-size}
 use Rattle.state.proofs.Opened.{opened}
 use Rattle.walk.proofs.HighestTaken.{highest, highest-decided, retreat-decides, retreat-exit, last-vertex, last-sum, last-opened}
 use borrow.Author.Needs.{needs}

@@ -6,7 +6,7 @@ use native.Mathlib.Omega.{arith}
 use lib.ListN.{length}
 use Rattle.model.specs.Walk.{advance}
 use Rattle.theory.proofs.walk.Moves.{advance-is}
-use Rattle.graph.proofs.Ranks.{table-size}
+use Rattle.graph.proofs.Table.{table-size}
 use Rattle.state.specs.NextRank.{Decides}
 use Rattle.state.proofs.Opened.{set-decides}
 use borrow.Author.Needs.{needs}

@@ -1,0 +1,2 @@
+-- The slice of degrees and ranks, and what fills it.
+pub mod Ranks
