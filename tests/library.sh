@@ -6,7 +6,7 @@ if [ -z "${ISOLATED_LIB_DIR:-}" ]; then
     ISOLATED_LIB_DIR=target/staticlib
     # What an earlier build left must not pass for the result of one that fails.
     rm -f "$ISOLATED_LIB_DIR/libffi.a"
-    rt staticlib ffi
+    rt staticlib ffi || rm -f "$ISOLATED_LIB_DIR/libffi.a"
 fi
 ISOLATED_LIB_DIR=$(realpath -m -- "$ISOLATED_LIB_DIR")
 export ISOLATED_LIB_DIR

@@ -9,14 +9,36 @@ use Rattle.model.specs.Walk.{Position, fresh}
 use Rattle.page.proofs.page.Reads as page
 use Rattle.page.proofs.page.Kinds as page-kinds
 use Rattle.query.proofs.set_query.Reads as query
+use Rattle.query.proofs.set_query.Kinds as query-kinds
 use Rattle.dimacs.proofs.read_text.Reads as reader
+use Rattle.dimacs.proofs.read_text.Kinds as reader-kinds
 use Rattle.ffi.proofs.isolated_page.Reads as exported-page
 use Rattle.ffi.proofs.isolated_set_query.Reads as exported-query
 use Rattle.ffi.proofs.isolated_read_text.Reads as exported-reader
 use Rattle.demand.specs.Demand.{Promised, Calls}
-use Rattle.demand.specs.Compiled.{CompiledPage, callOf, Chained, PageHolds, ListHolds, QueryHolds, ReaderHolds}
+use Rattle.demand.specs.Compiled.{AsksNothing, CompiledPage, callOf, Chained, PageHolds, ListHolds, QueryHolds, ReaderHolds}
 use Rattle.demand.proofs.Demand.{demand}
 use Rattle.demand.proofs.Membership.{query-demand, list-demand, reader-demand}
+
+-- ---- none of these functions asks for anything
+
+pub page-asks-nothing : AsksNothing 4 page-kinds.ps page.Pre
+page-asks-nothing κs a = tt
+
+pub query-asks-nothing : AsksNothing 3 query-kinds.ps query.Pre
+query-asks-nothing κs a = tt
+
+pub reader-asks-nothing : AsksNothing 2 reader-kinds.ps reader.Pre
+reader-asks-nothing κs a = tt
+
+pub exported-page-asks-nothing : AsksNothing 4 page-kinds.ps exported-page.Pre
+exported-page-asks-nothing κs a = tt
+
+pub exported-query-asks-nothing : AsksNothing 3 query-kinds.ps exported-query.Pre
+exported-query-asks-nothing κs a = tt
+
+pub exported-reader-asks-nothing : AsksNothing 2 reader-kinds.ps exported-reader.Pre
+exported-reader-asks-nothing κs a = tt
 
 -- ---- the page call
 

@@ -6,7 +6,7 @@ use mathlib.Core.Path.{_≡_}
 use mathlib.Core.Logic.{_↔_}
 use mathlib.Core.List.{List, [], _∷_, map}
 use contract.Lifetimes.{Lfts}
-use borrow.Fn.Kinds.{PK, RK, Out, Dens, resT, endedOf}
+use borrow.Fn.Kinds.{PK, RK, In, Out, Dens, resT, endedOf}
 use denote.Triple.Clauses.{AtExit}
 use Rattle.model.specs.Graph.{byTable}
 use Rattle.model.specs.Groups.{Settings, settings}
@@ -21,14 +21,17 @@ use Rattle.dimacs.proofs.read_text.Kinds as reader-kinds
 use Rattle.demand.specs.Demand.{MadeCall, reported, PageDemand}
 use Rattle.demand.specs.Membership.{TextDemand}
 
--- A call of a compiled function: any arguments, answer and memory at exit that its contract allows. None of these functions asks for anything, so any
--- arguments may be given.
+-- A call of a compiled function: any arguments, answer and memory at exit that its contract allows.
 pub record Compiled (m : ℕ) (ps : List (PK m)) (r : RK m) (Post : Out m ps r) : Type 0 where
   pub lifetimes : Lfts m
   pub arguments : Dens lifetimes ps
   pub answer : resT r lifetimes .Denot
   pub at-exit : AtExit (endedOf m ps r) lifetimes
   pub promised : Post lifetimes arguments answer at-exit
+
+-- a function that asks for nothing, so that any arguments may be given: `Pre` is what its contract asks of the arguments
+abbrev pub AsksNothing : (m : ℕ) (ps : List (PK m)) → In m ps → Type 0
+AsksNothing m ps Pre = (κs : Lfts m) (a : Dens κs ps) → Pre κs a
 
 -- ---- the page call
 

@@ -1,4 +1,4 @@
--- Outcome by line: what was read so far, and what is left of the text, give the definition's reply. Assumes nothing.
+-- Line by line: what was read so far, and what is left of the text, give the definition's reply. Assumes nothing.
 use Prim.Native.Nat.{ℕ, suc, _+_, _*_, _-_, _≤_, _<_}
 use mathlib.Core.Path.{_≡_, refl, sym, ap, subst, _∙_}
 use mathlib.Core.Bool.{true, false}

@@ -7,8 +7,8 @@ use native.Mathlib.Nat.{mul-le-mul}
 use native.Mathlib.Omega.{arith}
 use lib.ListN.{length}
 use Rattle.model.specs.Graph.{onVertices, byTable, degree}
-use Rattle.theory.proofs.basics.Tests.{count-le}
 use Rattle.theory.proofs.graph.Table.{row-end}
+use Rattle.theory.proofs.graph.Degrees.{degree-le}
 use Rattle.graph.specs.Table.{TableFits}
 
 -- a row ends within the table, and the table is no longer than 1,024 × 1,024 bytes
@@ -20,6 +20,6 @@ unfolding byTable onVertices
 table-size n t = refl
 
 -- a degree is at most n
-pub degree-le : (n : ℕ) (t : List ℕ) (u : ℕ) → degree (byTable n t) u ≤ n
-unfolding degree byTable onVertices
-degree-le n t u = count-le n (byTable n t .joined u)
+pub table-degree : (n : ℕ) (t : List ℕ) (u : ℕ) → degree (byTable n t) u ≤ n
+unfolding byTable onVertices
+table-degree n t u = degree-le (byTable n t) u

@@ -54,8 +54,8 @@ fn smaller(a: usize, b: usize) -> usize
     if b < a { b } else { a }
 }
 
-// The larger of a and b.
-fn larger(a: usize, b: usize) -> usize
+// The greater of a and b.
+fn greater(a: usize, b: usize) -> usize
     ensures { λ r. ⌜ r ≡ max a b ⌝ }
 {
     if a < b { b } else { a }
@@ -109,7 +109,7 @@ pub fn with_member(t: Tally, d: usize) -> Tally
     ensures { λ r. ⌜ r ≡ withMember t d ⌝ }
 {
     let least = smaller(t.least, d);
-    let largest = larger(t.largest, d);
+    let largest = greater(t.largest, d);
     Tally {
         members: t.members + 1,
         sum: t.sum + d,

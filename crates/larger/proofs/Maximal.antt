@@ -13,7 +13,7 @@ use Rattle.model.specs.Graph.{Graph, byTable, degree}
 use Rattle.model.specs.Groups.{VertexSet, sizeOf}
 use Rattle.theory.specs.Search.{gather, degreeSum, findLarger, searched, beaten}
 use Rattle.theory.proofs.search.Cut.{search-cut}
-use Rattle.graph.proofs.Table.{table-size, degree-le}
+use Rattle.graph.proofs.Table.{table-size, table-degree}
 use Rattle.isolation.specs.declared.Settings.{Settings}
 use Rattle.isolation.specs.declared.Tally.{Tally}
 use Rattle.isolation.specs.Numbers.{findOf, beatenOf}
@@ -33,7 +33,7 @@ gather-small (suc n) S f h = go (S n) (gather-small n S f h)
 
 sum-small : (n : ℕ) (t : List ℕ) (S : VertexSet) → n ≤ 1024 → degreeSum (byTable n t) S ≤ 1024 * sizeOf (byTable n t) S
 unfolding degreeSum sizeOf
-sum-small n t S h = gather-small (byTable n t .size) S (degree (byTable n t)) (λ i. let l = degree-le n t i in omega arith)
+sum-small n t S h = gather-small (byTable n t .size) S (degree (byTable n t)) (λ i. let l = table-degree n t i in omega arith)
 
 module _ (G : Graph) (s : Settings) (y : Tally) (vs : List ℕ) where
   by-neighbour : (b : Bool) → searched (s .kind) (s .notion) ≡ b → b ≡ false → beatenOf G s y vs ≡ ltb 0 (length vs)

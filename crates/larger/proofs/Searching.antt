@@ -12,7 +12,7 @@ use Rattle.model.specs.Graph.{Graph, byTable, degree}
 use Rattle.theory.specs.Search.{joinedAll}
 use Rattle.theory.proofs.basics.Tests.{trichotomy}
 use Rattle.theory.proofs.search.Steps.{cut-end, cut-hopeless, cut-apart, cut-here, cut-deeper, cut-next}
-use Rattle.graph.proofs.Table.{degree-le}
+use Rattle.graph.proofs.Table.{table-degree}
 use Rattle.isolation.specs.declared.Settings.{Settings}
 use Rattle.isolation.specs.declared.Tally.{Tally}
 use Rattle.isolation.specs.Numbers.{withMember, isolatedOf, hopelessOf, findOf}
@@ -97,7 +97,7 @@ module _ {n : ℕ} {t ranks w₀ : List ℕ} {s : Settings} {y : Tally} {base i 
     degree-is = at .lent .degrees candidate candidate-vertex ∙ ap (degree graph) (sym is-candidate)
 
     pub degree-small : getD ranks (n + candidate) 0 ≤ n
-    degree-small = let d = at .lent .degrees candidate candidate-vertex in let l = degree-le n t candidate in omega arith
+    degree-small = let d = at .lent .degrees candidate candidate-vertex in let l = table-degree n t candidate in omega arith
 
     in-list : j < length candidates
     in-list = let l = all-candidates in omega arith

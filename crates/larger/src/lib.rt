@@ -34,7 +34,7 @@ pub fn joined_to_all(table: &[u8], n: usize, work: &[u16], v: usize, from: usize
 // Searches for a larger isolated clique. The members, with the numbers y, stand in part 1 of work; those from place base on were added by the
 // search, and candidates i to m - 1 of part 3 are left. A candidate that is joined to those added is added, and the candidates after it are
 // searched; else, and after that, it is passed over. Reads the table and the degrees in part 1 of ranks; writes part 1 of work past the members.
-// Document 000, section 3.2, screens under max without it, by a clique of x + 1 common neighbours of degree at most size + c + x; that drops groups that
+// Documents 000, section 3.2, and 002, section 2.2.3, screen under max without it, by a clique of x + 1 common neighbours of degree at most size + c + x; that drops groups that
 // are maximal, since x + 2 are needed, so the larger set's own isolation test decides here.
 fn search(
     table: &[u8],

@@ -70,7 +70,8 @@ pub fn tally_of(ranks: &[u16], n: usize, work: &[u16], k: usize) -> Tally
 }
 
 // Writes the vertices that are joined to each of the k members in part 1 of work into part 3, lowest first, and nothing else of work, and gives how
-// many they are; with no loops in the graph they are the members' common neighbours. Reads the table at the members.
+// many they are; with no loops in the graph they are the members' common neighbours, of which a larger clique is made (the common neighbourhood of
+// document 002, section 2.2.3). Reads the table at the members.
 pub fn common_neighbours(table: &[u8], n: usize, work: &mut [u16], k: usize) -> usize
     requires { ⌜ TableFits n (now table) × HoldsMembers n (now work) k ⌝ }
     ensures { λ m. ⌜ Filled (3 * n) (3 * n + n) (passing n (λ v. joinedAll (byTable n (now (table .entry))) v (part (now (work .entry)) n k))) (now (work .entry)) (now (work .exit)) m × (m ≤ n) ⌝ }

@@ -90,7 +90,8 @@ unfoldable pub someLarger : Graph → VertexSet → (VertexSet → Bool) → Boo
 someLarger G S P = someSet (G .size) (λ L. larger G L S && P L)
 
 -- what no larger set may be. Document 002, definition 2 (kind 0, maximal isolated): an isolated clique; definition 1 (kind 1, isolated
--- maximal): a clique
+-- maximal): a clique. The max screening of documents 000, section 3.2, and 002, section 2.2.3, is not used: x + 1 common neighbours of degree at most
+-- size + c + x do not make an isolated clique, x + 2 are needed (K5)
 unfoldable pub rival : Graph → ℕ → ℕ → Factor → VertexSet → Bool
 rival G zero notion c L = isolatedClique G notion c L
 rival G (suc k) notion c L = clique G L

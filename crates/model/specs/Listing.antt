@@ -32,7 +32,7 @@ unfoldable pub leftNeighbours : Graph → Position → ℕ → ℕ
 leftNeighbours G p r = count (G .size) (λ i. is 2 p i && adjacent G r i)
 
 -- Document 01, "The walk": dead if two taken ranks are not adjacent, or if something is taken and at least c neighbours of the pivot are
--- left. It doesn't depend on notion or kind
+-- left. It doesn't depend on notion or kind. Documents 000, section 2, and 002, section 2.2: a pivot has less than c outgoing edges
 unfoldable pub dead : Graph → Factor → Position → Bool
 dead G c p = apart G p || (has 1 p && not (within c 1 (leftNeighbours G p (pivot G p))))
 

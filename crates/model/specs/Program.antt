@@ -8,7 +8,7 @@ use mathlib.Core.Option.{Option, none, some}
 use lib.ListN.{length, take, replicate}
 use lib.Dec.{ltb}
 use Rattle.model.specs.Graph.{Graph, byTable}
-use Rattle.model.specs.Groups.{Settings}
+use Rattle.model.specs.Groups.{Settings, settings}
 use Rattle.model.specs.Walk.{Position, fresh, lasts, fullSets}
 use Rattle.model.specs.Listing.{takenList, rules}
 use Rattle.model.specs.Calls.{refuseSettings}
@@ -32,7 +32,7 @@ three none b c = wrong 32
 three (some a) none c = wrong 32
 three (some a) (some b) none = wrong 32
 three (some a) (some b) (some c) =
-    let s : Settings = record { notion = a; kind = b; factor = c } in
+    let s = settings a b c in
     bounded (refuseSettings s 0) s
 
 -- notion, kind and c: 32 their count and the form of a number, then 6, 7, 8

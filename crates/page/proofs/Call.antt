@@ -21,7 +21,7 @@ use Rattle.walk.specs.Walk.{Walking}
 use Rattle.rounds.specs.declared.PageAnswer.{PageAnswer}
 use Rattle.rounds.specs.Answer.{PageReplies, refused}
 use Rattle.page.specs.Call.{PageCalled}
-use Rattle.page.proofs.Refusals.{Passed}
+use Rattle.page.proofs.Refusals.{InputPassed}
 
 -- ---- the ranks
 
@@ -57,7 +57,7 @@ module _ (n : ℕ) (t : List ℕ) (s : Settings) (budget : ℕ) (p : Position) (
   called-accepted e z r l = record { replies = rw (sym e ∙ z) r; work-length = l; work-kept = λ d. absurd (d (r .refusal)) }
 
 -- what the rounds ask for
-pub begins : {n : ℕ} {t ranks : List ℕ} {p : Position} {w : List ℕ} {q : isolation.Settings} {s : State} {work : ℕ} → Passed n t (settingsOf q) p work → HoldsRanks n t ranks
+pub begins : {n : ℕ} {t ranks : List ℕ} {p : Position} {w : List ℕ} {q : isolation.Settings} {s : State} {work : ℕ} → InputPassed n t (settingsOf q) p work → HoldsRanks n t ranks
     → {r : ℕ} → ((x : Settings) → x .factor ≡ q .factor → r ≡ refusePosition (rules (byTable n t) x) p) → r ≡ 0 → Stands (byTable n t) p w s
     → Walking n (q .factor) t ranks p w s × (q .factor ≤ 1024)
 begins h r f z st =

@@ -25,7 +25,7 @@ unfolding refuseLengths
 lengths-gate n p work = gate-then (refuse 9 _) _ (gate-one 8 (not (eqb (length p) n))) (gate-one 9 (ltb work (8 * n)))
 
 -- what a call has that passes 1 to 10
-pub record Passed (n : ℕ) (t : List ℕ) (s : Settings) (p : Position) (work : ℕ) : Type 0 where
+pub record InputPassed (n : ℕ) (t : List ℕ) (s : Settings) (p : Position) (work : ℕ) : Type 0 where
   pub table : refuseTable n t 0 ≡ 0
   pub fits : TableFits n t
   pub factor : s .factor ≤ 1024
@@ -74,7 +74,7 @@ module _ (n : ℕ) (t : List ℕ) (s : Settings) (p : Position) (work : ℕ) whe
 
   -- ---- a call that passes them
 
-  pub passed : {r : ℕ} → r ≡ inputs 0 → r ≡ 0 → Passed n t s p work
+  pub passed : {r : ℕ} → r ≡ inputs 0 → r ≡ 0 → InputPassed n t s p work
   unfolding refuseSettings refuseLengths
   passed e z =
       let a = gate-passed (refuseTable n t) (table-gate n t) (refuseSettings s (refuseLengths n p work 0)) (sym e ∙ z) in

@@ -1,2 +1,2 @@
--- Laws.
+-- The laws of the refusals of a position.
 pub mod Refusals

@@ -1,2 +1,2 @@
--- Specs.
+-- What the refusals of a position read and find.
 pub mod Position

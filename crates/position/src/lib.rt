@@ -138,7 +138,7 @@ fn left_of_pivot(table: &[u8], ranks: &[u16], n: usize, position: &[u8], pivot: 
 }
 
 // Whether a position is dead; ranks past its end are open. Document 01, "The walk": two taken ranks are not adjacent, or something is taken and at
-// least c neighbours of the pivot are left, which by documents 000 and 002 leaves no isolated clique with that pivot. Reads the position.
+// least c neighbours of the pivot are left, which by documents 000, section 2, and 002, section 2.2, leaves no isolated clique with that pivot. Reads the position.
 fn is_dead(table: &[u8], ranks: &[u16], n: usize, c: u32, position: &[u8]) -> bool
     requires { ⌜ HoldsRanks n (now table) (now ranks) × (length (now position) ≤ n) ⌝ }
     ensures { λ r. ⌜ r ≡ dead (byTable n (now (table .entry))) c (now (position .entry)) ⌝ }

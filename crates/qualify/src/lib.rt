@@ -11,7 +11,8 @@ use state::State;
 
 // Writes those of the left neighbours of the pivot, whose ranks are the first `left` entries of part 2 of work, that are joined to each taken vertex, the
 // first `taken` entries of part 1, into part 3, and says how many. Writes nothing else.
-// Document 002, section 2.2.3: a larger clique is a clique with common neighbours of its members added. With all ranks decided each of these is left.
+// A larger clique is a clique with common neighbours of its members added (the common neighbourhood of document 002, section 2.2.3). With all ranks
+// decided each of these is left.
 fn candidates(
     table: &[u8],
     ranks: &[u16],
@@ -64,8 +65,8 @@ fn numbers(s: State, ranks: &[u16], work: &[u16], n: usize) -> Tally
 // Whether all ranks are decided and the taken set qualifies, of the position that the state and the work slice stand for. Writes part 3 of work, and part 1
 // past the taken vertices.
 // The notions are document 002's, section 2.1; kind 0 is its definition 2 (maximal isolated) and kind 1 its definition 1 (isolated maximal).
-// A larger set is searched for, not screened by degree as in document 000, section 3.2: that test is one vertex too generous, and in a star with three
-// leaves at factor 2 it discards all three groups (document 01, "Where the papers tempt").
+// A larger set is searched for, not screened by degree as in documents 000, section 3.2, and 002, section 2.2.3: that test is one vertex too
+// generous, and in a star with three leaves at factor 2 it discards all three groups (document 01, "Where the papers tempt").
 pub fn qualifies(
     s: State,
     q: Settings,

@@ -33,7 +33,7 @@ use Rattle.members.specs.Members.{HoldsMembers, pairwise, Tallies}
 use Rattle.query.specs.Query.{QueryReady, Decided}
 use Rattle.theory.proofs.basics.Parts.{part-length, part-at}
 use Rattle.members.proofs.Listed.{clique-test}
-use Rattle.isolation.proofs.Refusals.{QueryAccepted, query-accepted}
+use Rattle.query.proofs.Refusals.{QueryAccepted, query-accepted}
 
 -- the vertices that pass a set's test are its members
 passing-members : (G : Graph) (S : VertexSet) → Members G S (passing (G .size) S)

@@ -20,7 +20,7 @@ use Rattle.theory.proofs.basics.PassingParts.{passing-count}
 use Rattle.theory.proofs.graph.Factor.{at-least}
 use Rattle.theory.proofs.graph.Ranks.{vertex-at}
 use Rattle.theory.proofs.walk.Moves.{has-found, has-none, finished-is}
-use Rattle.graph.proofs.Table.{table-size, degree-le}
+use Rattle.graph.proofs.Table.{table-size, table-degree}
 use Rattle.ranks.specs.Ranks.{HoldsRanks}
 use Rattle.state.specs.State.{takenRanks, leftOfPivot, leftRanks, Stands, StandsForOne}
 use Rattle.state.specs.declared.State.{State}
@@ -159,7 +159,7 @@ module _ {n : ℕ} {t ranks : List ℕ} (R : HoldsRanks n t ranks) {w : List ℕ
 module _ {n : ℕ} {t ranks : List ℕ} (R : HoldsRanks n t ranks) where
   -- a degree, and the sum of the degrees of the taken vertices, are small
   degree-small : (v : ℕ) → degree (byTable n t) v ≤ 1024
-  degree-small v = let a = degree-le n t v in let b = R .fits .small in omega arith
+  degree-small v = let a = table-degree n t v in let b = R .fits .small in omega arith
 
   pub degree-read : (v : ℕ) {e : ℕ} → e ≡ getD ranks (n + v) 0 → v < n → e ≤ 1024
   degree-read v e h = let a = R .degrees v h in let b = degree-small v in omega arith

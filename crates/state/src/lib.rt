@@ -80,7 +80,7 @@ fn misses_one(table: &[u8], n: usize, work: &[u16], k: usize, v: usize) -> bool
 }
 
 // How many neighbours of the pivot are left once the next rank, d, is taken; part 2 of work then holds them, lowest first. Document 01, "Graph and
-// ranks", after documents 000 and 002: the pivot is the member of lowest rank, one of least degree. So it stays where something is taken. Else it
+// ranks", after documents 000, section 2, and 002, section 2.2: the pivot is the member of lowest rank, one of least degree. So it stays where something is taken. Else it
 // is d, and the ranks below d, which are all left, are looked through once.
 fn left_once_taken(s: State, table: &[u8], ranks: &[u16], n: usize, work: &mut [u16]) -> usize
     requires { ⌜ HoldsRanks n (now table) (now ranks) × StandsForOne (byTable n (now table)) (now work) s × (s .decided < n) ⌝ }

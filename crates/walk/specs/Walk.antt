@@ -5,7 +5,7 @@ use mathlib.Core.Path.{_≡_}
 use mathlib.Core.List.{List}
 use lib.ListN.{getD}
 use Rattle.model.specs.Graph.{Graph, byTable}
-use Rattle.model.specs.Groups.{Factor}
+use Rattle.model.specs.Groups.{Factor, settings}
 use Rattle.model.specs.Walk.{Position, Rules, step}
 use Rattle.model.specs.Listing.{rules}
 use Rattle.model.specs.Calls.{refuseTable, refusePosition}
@@ -15,7 +15,7 @@ use Rattle.state.specs.declared.State.{State}
 
 -- the rules of a graph at a factor. Document 01, "The walk": dead doesn't depend on notion or kind, so any serve
 abbrev pub rulesAt : Graph → Factor → Rules
-rulesAt G c = rules G (record { notion = 0; kind = 0; factor = c })
+rulesAt G c = rules G (settings 0 0 c)
 
 -- the position passes refusals 21 to 23
 abbrev pub Passes : Graph → Factor → Position → Type 0

@@ -10,7 +10,7 @@ use borrow.Author.Tests.{lt-ltb, le-ltb, eq-eqb, ne-eqb}
 use Rattle.model.specs.Calls.{refuse, over, refuseTable, refuseQuery}
 use Rattle.graph.proofs.Refusals.{table-accepted}
 use Rattle.isolation.specs.Numbers.{settingsOf}
-use Rattle.isolation.proofs.Refusals.{query-table, query-settings, query-lengths}
+use Rattle.query.proofs.Refusals.{query-table, query-settings, query-lengths}
 use borrow.Author.Needs.{needs}
 use Rattle.query.proofs.query_refusal.Statement.{statement}
 use Rattle.query.proofs.query_refusal.Tie as tie

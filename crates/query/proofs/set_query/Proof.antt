@@ -10,7 +10,7 @@ use Rattle.model.specs.Groups.{settings}
 use Rattle.model.specs.Calls.{refuseQuery}
 use Rattle.graph.specs.Table.{TableFits}
 use Rattle.ranks.specs.Ranks.{RanksFit}
-use Rattle.isolation.proofs.Refusals.{query-accepted}
+use Rattle.query.proofs.Refusals.{query-accepted}
 use Rattle.query.proofs.Answer.{answer-refused, answer-decided}
 use borrow.Author.Needs.{needs}
 use Rattle.query.proofs.set_query.Statement.{statement}

@@ -30,23 +30,23 @@ use Rattle.theory.proofs.text.EdgeTextGraph.{read-table-accepted}
 -- ---- refusals
 
 -- the settings that words give pass, and a refusal has a number
-abbrev Passed : Words → Type 0
-Passed (wrong k) = 0 < k
-Passed (chosen s) = refuseSettings s 0 ≡ 0
+abbrev WordsPassed : Words → Type 0
+WordsPassed (wrong k) = 0 < k
+WordsPassed (chosen s) = refuseSettings s 0 ≡ 0
 
-bounded-passed : (k : ℕ) (s : Settings) → refuseSettings s 0 ≡ k → Passed (bounded k s)
+bounded-passed : (k : ℕ) (s : Settings) → refuseSettings s 0 ≡ k → WordsPassed (bounded k s)
 unfolding bounded
 bounded-passed zero s e = e
 bounded-passed (suc k) s e = omega arith
 
-three-passed : (a b c : Option ℕ) → Passed (three a b c)
+three-passed : (a b c : Option ℕ) → WordsPassed (three a b c)
 unfolding three
 three-passed none b c = omega arith
 three-passed (some x) none c = omega arith
 three-passed (some x) (some y) none = omega arith
 three-passed (some x) (some y) (some z) = bounded-passed _ _ refl
 
-words-passed : (words : List (List ℕ)) → Passed (settingsOfWords words)
+words-passed : (words : List (List ℕ)) → WordsPassed (settingsOfWords words)
 unfolding settingsOfWords
 words-passed [] = omega arith
 words-passed (a ∷ []) = omega arith
@@ -65,7 +65,7 @@ unfolding byReading
 reading-listable zero s r h f = (h, f refl)
 reading-listable (suc k) s r h f = omega arith
 
-words-listable : (w : Words) (text : List ℕ) → Passed w → Answerable (byWords w text)
+words-listable : (w : Words) (text : List ℕ) → WordsPassed w → Answerable (byWords w text)
 unfolding byWords reading
 words-listable (wrong k) text h = h
 words-listable (chosen s) text h =

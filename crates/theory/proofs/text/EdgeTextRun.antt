@@ -149,14 +149,14 @@ module _ (slice : List ℕ) where
   -- ---- over lines without fault
 
   -- the reading after the lines ls, when all lines so far say ys
-  pub record Ran (r : Reading) (ls : List (List ℕ)) (ys : List Line) : Type 0 where
+  pub record RanOver (r : Reading) (ls : List (List ℕ)) (ys : List Line) : Type 0 where
     pub after : Reading
     pub state : State (length slice) ys after
     pub reads : (at : ℕ) (rest : List (List ℕ)) → readFrom at r (ls ++ rest) slice ≡ readFrom (at + length ls) after rest slice
 
   -- the reader passes all lines without fault
   pub run : (r : Reading) (xs : List Line) (ls : List (List ℕ)) (ys : List Line) → State (length slice) xs r → Faultless (length slice) xs ls ys
-      → Ran r ls (xs ++ ys)
+      → RanOver r ls (xs ++ ys)
   run r xs [] [] st f =
       record {
         after = r;
@@ -167,7 +167,7 @@ module _ (slice : List ℕ) where
   run r xs (l ∷ ls) [] st f = absurd f
   run r xs (l ∷ ls) (y ∷ ys) st f = go (line-reads r xs l st) (λ s t. run s (xs ++ (y ∷ [])) ls ys t (f .2))
     where
-      go : LineReads r xs l → ((s : Reading) → State (length slice) (xs ++ (y ∷ [])) s → Ran s ls (xs ++ (y ∷ []) ++ ys)) → Ran r (l ∷ ls) (xs ++ (y ∷ ys))
+      go : LineReads r xs l → ((s : Reading) → State (length slice) (xs ++ (y ∷ [])) s → RanOver s ls (xs ++ (y ∷ []) ++ ys)) → RanOver r (l ∷ ls) (xs ++ (y ∷ ys))
       go (inl (k, faulty, first, e)) ih = absurd (faulty (none-first (lineFaults (length slice) xs l) k (f .1) first))
       go (inr (x, s, spelled, none, t, e)) ih =
           let ran = ih s (subst (λ (z : Line). State (length slice) (xs ++ (z ∷ [])) s) (says-one l x y spelled (f .0)) t) in
