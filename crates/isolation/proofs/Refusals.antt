@@ -10,7 +10,6 @@ use Rattle.model.specs.Calls.{refuse, refuseSettings}
 use Rattle.theory.proofs.basics.Gates.{Gate, gate-one, gate-then}
 use Rattle.theory.proofs.basics.Tests.{or-second}
 use Rattle.theory.proofs.calls.PageAccepted.{refuse-pass}
-use Rattle.isolation.specs.declared.Settings as query
 
 pub settings-by : (s : Settings) {a b d : Bool} → ltb 2 (s .notion) ≡ a → ltb 1 (s .kind) ≡ b → (eqb (s .factor) 0 || ltb 1024 (s .factor)) ≡ d
     → refuse 6 a (refuse 7 b (refuse 8 d 0)) ≡ refuseSettings s 0

@@ -8,7 +8,6 @@ use lib.ListN.{length, getD, take}
 use Rattle.model.specs.Below.{all}
 use Rattle.model.specs.Graph.{Graph}
 use Rattle.model.specs.Groups.{VertexSet}
-use Rattle.model.specs.Groups as groups
 use Rattle.theory.specs.Parts.{HoldsVertices}
 use Rattle.theory.specs.Search.{joinedAll, Members}
 use Rattle.ranks.specs.Ranks.{HoldsDegrees}
