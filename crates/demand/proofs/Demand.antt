@@ -6,7 +6,6 @@ use mathlib.Core.Logic.{_≢_}
 use mathlib.Core.List.{List, [], _∷_, map}
 use native.Mathlib.Omega.{arith}
 use lib.ListN.{length}
-use Rattle.model.specs.Graph.{byTable}
 use Rattle.model.specs.Groups.{Settings, settings, VertexSet}
 use Rattle.model.specs.Meaning.{Qualifies}
 use Rattle.model.specs.Walk.{Position, Page, fresh}
@@ -16,6 +15,7 @@ use Rattle.model.specs.Demand as model
 use Rattle.model.specs.Demand.{joinedOutput, SomeFinished, Demand3}
 use Rattle.theory.proofs.calls.Bounds.{page-bounds}
 use Rattle.theory.proofs.calls.Pages.{call-progress, demand3}
+use Rattle.graph.specs.Table.{graphOf}
 use Rattle.rounds.specs.Answer.{PageReplies}
 use Rattle.demand.specs.Demand.{MadeCall, Promised, reported, Calls, EachCall, Every, PageDemanded}
 
@@ -108,8 +108,8 @@ demand n t s valid cs h =
     let d = demand3 n t s valid (map brought cs) (agree-are t s (fresh n) cs h) in
     let e = sym (replies-are t s (fresh n) cs h) in
     record {
-      done = subst (Demand3 (rules (byTable n t) s) n) e (d .done);
+      done = subst (Demand3 (rules (graphOf n t) s) n) e (d .done);
       none-qualifies =
-          subst (λ (rs : List PageReply). SomeFinished rs → joinedOutput rs ≡ [] → (S : VertexSet) → Qualifies (byTable n t) s S → ⊥) e (d .none-qualifies);
+          subst (λ (rs : List PageReply). SomeFinished rs → joinedOutput rs ≡ [] → (S : VertexSet) → Qualifies (graphOf n t) s S → ⊥) e (d .none-qualifies);
       each = every-call t s (fresh n) cs h;
     }

@@ -5,7 +5,6 @@ use mathlib.Core.Bool.{Bool, true, false}
 use native.Mathlib.Omega.{arith}
 use lib.ListN.{length}
 use Rattle.model.specs.Below.{bit}
-use Rattle.model.specs.Graph.{onVertices, byTable}
 use Rattle.model.specs.Walk.{fullSets, fullList}
 use Rattle.model.specs.Listing.{rules}
 use Rattle.model.specs.Calls.{byBytes, refuseQuery, query}
@@ -15,6 +14,7 @@ use Rattle.theory.proofs.calls.Faults.{query-accepted-iff, query-yes-iff}
 use Rattle.theory.proofs.walk.Listing.{lists}
 use Rattle.theory.proofs.text.EdgeText.{accepted-iff, accepted-reply}
 use Rattle.theory.proofs.text.EdgeTextGraph.{read-graph-accepted}
+use Rattle.graph.specs.Table.{graphOf}
 use Rattle.query.proofs.Answer.{reply-refused}
 use Rattle.demand.specs.Membership.{QueryDemand, ListDemand, ReaderDemand}
 use Rattle.demand.proofs.Demand.{demand}
@@ -29,15 +29,15 @@ pub query-demand : QueryDemand
 unfolding query
 query-demand n t set work left notion kind c a h e =
     let s = settings notion kind c in
-    let accepted = sym (reply-refused (refuseQuery n t s set (length work)) (qualifies (byTable n t) s (byBytes set))) ∙ sym (h .refused) ∙ e in
+    let accepted = sym (reply-refused (refuseQuery n t s set (length work)) (qualifies (graphOf n t) s (byBytes set))) ∙ sym (h .refused) ∙ e in
     let says = query-yes-iff n t s set (length work) (query-accepted-iff n t s set (length work) .0 accepted) in
     (λ y. says .0 (bit-true _ (sym (h .yes) ∙ y)), λ q. h .yes ∙ ap bit (says .1 q))
 
 -- The finished list has exactly the sets that qualify.
 pub list-demand : ListDemand
-unfolding fullList onVertices byTable
+unfolding fullList
 list-demand n t s valid cs h f =
-    (fullSets (rules (byTable n t) s) n, demand n t s valid cs h .done .whole f .0, lists (byTable n t) s)
+    (fullSets (rules (graphOf n t) s) n, demand n t s valid cs h .done .whole f .0, lists (graphOf n t) s)
 
 -- A text is read exactly where it is an edge text, and gives its graph.
 pub reader-demand : ReaderDemand

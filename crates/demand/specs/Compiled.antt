@@ -8,13 +8,13 @@ use mathlib.Core.List.{List, [], _∷_, map}
 use contract.Lifetimes.{Lfts}
 use borrow.Fn.Kinds.{PK, RK, In, Out, Dens, resT, endedOf}
 use denote.Triple.Clauses.{AtExit}
-use Rattle.model.specs.Graph.{byTable}
 use Rattle.model.specs.Groups.{Settings, settings}
 use Rattle.model.specs.Meaning.{Qualifies, Lists}
 use Rattle.model.specs.Walk.{Position, fresh, records}
 use Rattle.model.specs.Listing.{rules}
 use Rattle.model.specs.Calls.{refuseTable, byBytes}
 use Rattle.model.specs.Demand.{joinedOutput, SomeFinished}
+use Rattle.graph.specs.Table.{graphOf}
 use Rattle.page.proofs.page.Kinds as page-kinds
 use Rattle.query.proofs.set_query.Kinds as query-kinds
 use Rattle.dimacs.proofs.read_text.Kinds as reader-kinds
@@ -77,7 +77,7 @@ abbrev pub ListHolds : Out 4 page-kinds.ps page-kinds.r → Type 0
 ListHolds Post =
     (n : ℕ) (t : List ℕ) (s : Settings) → refuseTable n t 0 ≡ 0 → (ks : List (CompiledPage Post)) → Chained t s (fresh n) ks
     → SomeFinished (map reported (map callOf ks))
-    → (ps : List Position) × (joinedOutput (map reported (map callOf ks)) ≡ records (rules (byTable n t) s) ps) × Lists (byTable n t) s ps
+    → (ps : List Position) × (joinedOutput (map reported (map callOf ks)) ≡ records (rules (graphOf n t) s) ps) × Lists (graphOf n t) s ps
 
 -- ---- the set query
 
@@ -91,7 +91,7 @@ QueryHolds Post =
     let notion = k .arguments .1 .1 .1 .1 .0 in
     let kind = k .arguments .1 .1 .1 .1 .1 .0 in
     let c = k .arguments .1 .1 .1 .1 .1 .1 .0 in
-    (k .answer .yes ≡ 1) ↔ Qualifies (byTable n table) (settings notion kind c) (byBytes set)
+    (k .answer .yes ≡ 1) ↔ Qualifies (graphOf n table) (settings notion kind c) (byBytes set)
 
 -- ---- the text reader
 

@@ -6,13 +6,13 @@ use mathlib.Core.Bool.{false}
 use mathlib.Core.Logic.{_≢_}
 use mathlib.Core.List.{List, [], _∷_, map}
 use lib.ListN.{length}
-use Rattle.model.specs.Graph.{byTable}
 use Rattle.model.specs.Groups.{Settings, settings, VertexSet}
 use Rattle.model.specs.Meaning.{Qualifies}
 use Rattle.model.specs.Walk.{Position, fresh, finished}
 use Rattle.model.specs.Listing.{rules}
 use Rattle.model.specs.Calls.{PageReply, refuseTable}
 use Rattle.model.specs.Demand.{joinedOutput, SomeFinished, Demand3}
+use Rattle.graph.specs.Table.{graphOf}
 use Rattle.rounds.specs.declared.PageAnswer.{PageAnswer}
 use Rattle.page.specs.Call.{PageCalled}
 
@@ -84,9 +84,9 @@ Every (c ∷ cs) = EachCall c × Every cs
 -- "After the list:"
 pub record PageDemand (n : ℕ) (t : List ℕ) (s : Settings) (cs : List MadeCall) : Type 0 where
   -- the four points of demand 3, of what the calls reported
-  pub done : Demand3 (rules (byTable n t) s) n (map reported cs)
+  pub done : Demand3 (rules (graphOf n t) s) n (map reported cs)
   -- "A page that says Finished with an empty list: demand 3 shuts it out, no output meaning no qualifying set."
-  pub none-qualifies : SomeFinished (map reported cs) → joinedOutput (map reported cs) ≡ [] → (S : VertexSet) → Qualifies (byTable n t) s S → ⊥
+  pub none-qualifies : SomeFinished (map reported cs) → joinedOutput (map reported cs) ≡ [] → (S : VertexSet) → Qualifies (graphOf n t) s S → ⊥
   pub each : Every cs
 
 -- Demand 3: of every graph's table, one that is not refused, all settings, and any list of calls of `page::page` that begins at fresh, the empty one too

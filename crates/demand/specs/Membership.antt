@@ -6,7 +6,6 @@ use mathlib.Core.Path.{_≡_}
 use mathlib.Core.Logic.{_↔_}
 use mathlib.Core.List.{List, _++_, map}
 use lib.ListN.{length, drop}
-use Rattle.model.specs.Graph.{byTable}
 use Rattle.model.specs.Groups.{Settings, settings}
 use Rattle.model.specs.Meaning.{Qualifies, Lists}
 use Rattle.model.specs.Walk.{Position, fresh, records}
@@ -14,6 +13,7 @@ use Rattle.model.specs.Listing.{rules}
 use Rattle.model.specs.Calls.{refuseTable, byBytes}
 use Rattle.model.specs.Demand.{joinedOutput, SomeFinished}
 use Rattle.model.specs.EdgeText.{EdgeText}
+use Rattle.graph.specs.Table.{graphOf}
 use Rattle.query.specs.declared.SetAnswer.{SetAnswer}
 use Rattle.query.specs.Query.{Answers}
 use Rattle.dimacs.specs.declared.TextAnswer.{TextAnswer}
@@ -24,13 +24,13 @@ use Rattle.demand.specs.Demand.{MadeCall, reported, Calls}
 abbrev pub QueryDemand : Type 0
 QueryDemand =
     (n : ℕ) (t set work work-left : List ℕ) (notion kind c : ℕ) (a : SetAnswer) → Answers n t set work work-left notion kind c a → a .refusal ≡ 0
-    → (a .yes ≡ 1) ↔ Qualifies (byTable n t) (settings notion kind c) (byBytes set)
+    → (a .yes ≡ 1) ↔ Qualifies (graphOf n t) (settings notion kind c) (byBytes set)
 
 -- once a call of `page::page` has said Finished, the joined output is the records of positions that list the sets that qualify: sound, complete, in order
 abbrev pub ListDemand : Type 0
 ListDemand =
     (n : ℕ) (t : List ℕ) (s : Settings) → refuseTable n t 0 ≡ 0 → (cs : List MadeCall) → Calls t s (fresh n) cs → SomeFinished (map reported cs)
-    → (ps : List Position) × (joinedOutput (map reported cs) ≡ records (rules (byTable n t) s) ps) × Lists (byTable n t) s ps
+    → (ps : List Position) × (joinedOutput (map reported cs) ≡ records (rules (graphOf n t) s) ps) × Lists (graphOf n t) s ps
 
 -- a call of `dimacs::read_text` that left a text read: N, M, line 0, the table, and the rest of the slice untouched
 pub record Read (n m : ℕ) (t before after : List ℕ) (a : TextAnswer) : Type 0 where

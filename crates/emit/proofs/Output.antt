@@ -8,13 +8,14 @@ use native.Mathlib.Nat.{add-zero}
 use native.Mathlib.Omega.{arith}
 use lib.ListN.{length, take, drop, take-append-drop}
 use Rattle.model.specs.Below.{bit}
-use Rattle.model.specs.Graph.{Graph, onVertices, byTable}
+use Rattle.model.specs.Graph.{Graph}
 use Rattle.model.specs.Walk.{Position, Rules, found, due}
 use Rattle.model.specs.Listing.{takenList, rules}
 use Rattle.isolation.specs.declared.Settings.{Settings}
 use Rattle.isolation.specs.Numbers.{settingsOf}
 use Rattle.state.specs.declared.State.{State}
 use Rattle.theory.specs.Parts.{part}
+use Rattle.graph.specs.Table.{graphOf}
 use Rattle.state.specs.State.{Stands}
 use Rattle.qualify.specs.Qualify.{Asks, SaysQualifies}
 use Rattle.emit.specs.Emit.{Emitted}
@@ -23,7 +24,7 @@ use Rattle.qualify.proofs.Verdicts.{length-taken}
 
 module _ {n : ℕ} {t ranks w w₁ : List ℕ} {q : Settings} {s : State} {b : Bool} (a : Asks n t ranks w q s) (j : SaysQualifies n t w w₁ q s b) (out : List ℕ) (used : ℕ) where
   abbrev G : Graph
-  G = byTable n t
+  G = graphOf n t
 
   abbrev R : Rules
   R = rules G (settingsOf q)
@@ -79,7 +80,6 @@ module _ {n : ℕ} {t ranks w w₁ : List ℕ} {q : Settings} {s : State} {b : B
     pub emitted-put : used + s .taken + 1 ≤ length out → (next : List ℕ)
         → next ≡ take used out ++ (s .taken ∷ part w₁ n (s .taken)) ++ drop (used + s .taken + 1) out
         → Emitted n t w w₁ q s used out next (record { full = false; used = used + s .taken + 1; groups = 1; wanted = 0 })
-    unfolding byTable onVertices
     emitted-put l next f =
         record {
           put = λ p st.

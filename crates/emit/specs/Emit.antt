@@ -6,9 +6,9 @@ use mathlib.Core.Bool.{true, false}
 use mathlib.Core.List.{List, _++_}
 use lib.ListN.{length, take, drop}
 use Rattle.model.specs.Below.{bit}
-use Rattle.model.specs.Graph.{byTable}
 use Rattle.model.specs.Walk.{Position, Rules, found, due}
 use Rattle.model.specs.Listing.{rules}
+use Rattle.graph.specs.Table.{graphOf}
 use Rattle.isolation.specs.declared.Settings.{Settings}
 use Rattle.isolation.specs.Numbers.{settingsOf}
 use Rattle.state.specs.declared.State.{State}
@@ -26,5 +26,5 @@ pub record PutAt (R : Rules) (p : Position) (used : ℕ) (before after : List �
 
 -- that at each position for which the state stands, and that the state still stands for it
 pub record Emitted (n : ℕ) (t w w₁ : List ℕ) (q : Settings) (s : State) (used : ℕ) (before after : List ℕ) (r : Put) : Type 0 where
-  pub put : (p : Position) → Stands (byTable n t) p w s → PutAt (rules (byTable n t) (settingsOf q)) p used before after r
-  pub stands : (p : Position) → Stands (byTable n t) p w s → Stands (byTable n t) p w₁ s
+  pub put : (p : Position) → Stands (graphOf n t) p w s → PutAt (rules (graphOf n t) (settingsOf q)) p used before after r
+  pub stands : (p : Position) → Stands (graphOf n t) p w s → Stands (graphOf n t) p w₁ s

@@ -11,7 +11,7 @@ use lib.ListN.{length, getD}
 use lib.Dec.{ltb, eqb}
 use borrow.Author.Tests.{lt-ltb, le-ltb, ltb-false, eqb-true, not-false}
 use Rattle.model.specs.Below.{any}
-use Rattle.model.specs.Graph.{Graph, onVertices, byTable}
+use Rattle.model.specs.Graph.{Graph, byTable, amongVertices, byteJoined}
 use Rattle.model.specs.Calls.{refuse, over, looped, oneWay, refuseTable}
 use Rattle.theory.proofs.basics.Gates.{Gate, gate-one, gate-then}
 use Rattle.theory.proofs.basics.Tests.{test-self, test-any, any-found, any-none, any-each, trichotomy}
@@ -94,7 +94,7 @@ module _ (n : ℕ) (t : List ℕ) where
       (gate-then (refuse 3 _) _ (gate-one 2 (over 1 t)) (gate-then (refuse 4 _) _ (gate-one 3 (looped (byTable n t))) (gate-one 4 (oneWay (byTable n t))))))
 
   pub table-accepted : refuseTable n t 0 ≡ 0 → TableAccepted n t
-  unfolding refuseTable looped oneWay byTable onVertices
+  unfolding refuseTable looped oneWay byteJoined amongVertices
   table-accepted h =
       let size = refuse-pass 0 _ _ h in
       let whole = refuse-pass 1 _ _ (size .1) in

@@ -6,7 +6,7 @@ use mathlib.Core.List.{List}
 use native.Mathlib.Nat.{mul-le-mul}
 use native.Mathlib.Omega.{arith}
 use lib.ListN.{length}
-use Rattle.model.specs.Graph.{onVertices, byTable, degree}
+use Rattle.model.specs.Graph.{byTable, degree}
 use Rattle.theory.proofs.graph.Table.{row-end}
 use Rattle.theory.proofs.graph.Degrees.{degree-le}
 use Rattle.graph.specs.Table.{TableFits}
@@ -16,10 +16,8 @@ pub row-fits : {n : ℕ} {t : List ℕ} {u : ℕ} → TableFits n t → u < n �
 row-fits {n} {t} {u} f h = (omega (arith, row-end n u h), omega (arith, mul-le-mul (f .small) (f .small)))
 
 pub table-size : (n : ℕ) (t : List ℕ) → byTable n t .size ≡ n
-unfolding byTable onVertices
 table-size n t = refl
 
 -- a degree is at most n
 pub table-degree : (n : ℕ) (t : List ℕ) (u : ℕ) → degree (byTable n t) u ≤ n
-unfolding byTable onVertices
 table-degree n t u = degree-le (byTable n t) u

@@ -9,7 +9,7 @@ use native.Mathlib.Omega.{arith}
 use lib.ListN.{length}
 use lib.Dec.{ltb}
 use Rattle.model.specs.Below.{bit, count}
-use Rattle.model.specs.Graph.{Graph, byTable, degree}
+use Rattle.model.specs.Graph.{Graph, degree}
 use Rattle.model.specs.Groups.{VertexSet, sizeOf}
 use Rattle.theory.specs.Search.{gather, degreeSum, findLarger, searched, beaten}
 use Rattle.theory.proofs.search.Cut.{search-cut}
@@ -20,6 +20,7 @@ use Rattle.isolation.specs.Numbers.{findOf, beatenOf}
 use Rattle.theory.specs.Parts.{part}
 use Rattle.larger.specs.Search.{Lent, Room, Searched, Posed, Tested}
 use Rattle.theory.proofs.basics.Parts.{part-length, part-at, kept-none}
+use Rattle.graph.specs.Table.{graphOf}
 
 -- numbers of at most 1,024, summed over the members
 gather-small : (n : ℕ) (S : VertexSet) (f : ℕ → ℕ) → ((i : ℕ) → f i ≤ 1024) → gather _+_ 0 n S f ≤ 1024 * count n S
@@ -31,9 +32,9 @@ gather-small (suc n) S f h = go (S n) (gather-small n S f h)
     go true k = let l = h n in omega arith
     go false k = omega arith
 
-sum-small : (n : ℕ) (t : List ℕ) (S : VertexSet) → n ≤ 1024 → degreeSum (byTable n t) S ≤ 1024 * sizeOf (byTable n t) S
+sum-small : (n : ℕ) (t : List ℕ) (S : VertexSet) → n ≤ 1024 → degreeSum (graphOf n t) S ≤ 1024 * sizeOf (graphOf n t) S
 unfolding degreeSum sizeOf
-sum-small n t S h = gather-small (byTable n t .size) S (degree (byTable n t)) (λ i. let l = table-degree n t i in omega arith)
+sum-small n t S h = gather-small (graphOf n t .size) S (degree (graphOf n t)) (λ i. let l = table-degree n t i in omega arith)
 
 module _ (G : Graph) (s : Settings) (y : Tally) (vs : List ℕ) where
   by-neighbour : (b : Bool) → searched (s .kind) (s .notion) ≡ b → b ≡ false → beatenOf G s y vs ≡ ltb 0 (length vs)
@@ -92,10 +93,10 @@ module _ {n : ℕ} {t ranks w : List ℕ} {s : Settings} {y : Tally} {m : ℕ} (
       record {
         answer =
             found .answer
-            ∙ ap (λ (k : ℕ). findOf (byTable n t) s (part w (n + y .members) k) y (part w (3 * n) m)) none
-            ∙ search-cut (byTable n t) (posed .loopless) (posed .symmetric) (s .notion) (s .factor) (posed .set) (posed .clique) (part w (3 * n) m)
+            ∙ ap (λ (k : ℕ). findOf (graphOf n t) s (part w (n + y .members) k) y (part w (3 * n) m)) none
+            ∙ search-cut (graphOf n t) (posed .loopless) (posed .symmetric) (s .notion) (s .factor) (posed .set) (posed .clique) (part w (3 * n) m)
             (posed .candidates) (y .members) (y .sum) (y .least) (y .largest) (posed .tally)
-            ∙ sym (beaten-search (byTable n t) s y (part w (3 * n) m) e d);
+            ∙ sym (beaten-search (graphOf n t) s y (part w (3 * n) m) e d);
         kept = found .kept;
       }
     where
@@ -103,11 +104,11 @@ module _ {n : ℕ} {t ranks w : List ℕ} {s : Settings} {y : Tally} {m : ℕ} (
       none = omega arith
 
   -- a common neighbour decides
-  by-length : (r : Bool) → ltb 0 m ≡ r → beatenOf (byTable n t) s y (part w (3 * n) m) ≡ ltb 0 (length (part w (3 * n) m)) → Tested n t w w s y m r
+  by-length : (r : Bool) → ltb 0 m ≡ r → beatenOf (graphOf n t) s y (part w (3 * n) m) ≡ ltb 0 (length (part w (3 * n) m)) → Tested n t w w s y m r
   by-length r e f = record { answer = sym e ∙ ap (ltb 0) (sym all-candidates) ∙ sym f; kept = kept-none _ _ w }
 
   pub by-kind : s .kind ≢ 0 → {r : Bool} → ltb 0 m ≡ r → Tested n t w w s y m r
-  by-kind d e = by-length _ e (beaten-kind (byTable n t) s y (part w (3 * n) m) d)
+  by-kind d e = by-length _ e (beaten-kind (graphOf n t) s y (part w (3 * n) m) d)
 
   pub by-min : s .kind ≡ 0 → s .notion ≡ 0 → {r : Bool} → ltb 0 m ≡ r → Tested n t w w s y m r
-  by-min k e f = by-length _ f (beaten-min (byTable n t) s y (part w (3 * n) m) k e)
+  by-min k e f = by-length _ f (beaten-min (graphOf n t) s y (part w (3 * n) m) k e)

@@ -8,7 +8,7 @@ use mathlib.Core.Logic.{_⊎_, inl, inr}
 use native.Mathlib.Omega.{arith}
 use lib.ListN.{length, getD, drop, set}
 use lib.Seq.{getD-set-same, getD-set-other}
-use Rattle.model.specs.Graph.{Graph, byTable, degree}
+use Rattle.model.specs.Graph.{Graph, degree}
 use Rattle.theory.specs.Search.{joinedAll}
 use Rattle.theory.proofs.basics.Tests.{trichotomy}
 use Rattle.theory.proofs.search.Steps.{cut-end, cut-hopeless, cut-apart, cut-here, cut-deeper, cut-next}
@@ -19,6 +19,7 @@ use Rattle.isolation.specs.Numbers.{withMember, isolatedOf, hopelessOf, findOf}
 use Rattle.theory.specs.Parts.{part, Kept, HoldsVertices}
 use Rattle.larger.specs.Search.{Lent, Room, Searched}
 use Rattle.theory.proofs.basics.Parts.{part-length, part-at, part-push, kept-none, kept-set, kept-then, part-below, part-above}
+use Rattle.graph.specs.Table.{graphOf}
 
 -- those that the search has added, and the candidates
 abbrev pub addedIn : ℕ → List ℕ → Tally → ℕ → List ℕ
@@ -33,7 +34,7 @@ pub record At (n : ℕ) (t ranks w₀ : List ℕ) (s : Settings) (y : Tally) (ba
   pub room : Room n w₀ s y base i m
   pub from : i ≤ j
   pub kept : Kept (n + y .members) (2 * n) w₀ w
-  pub same : findOf (byTable n t) s (addedIn n w₀ y base) y (drop i (candidatesIn n w₀ m)) ≡ findOf (byTable n t) s (addedIn n w₀ y base) y (drop j (candidatesIn n w₀ m))
+  pub same : findOf (graphOf n t) s (addedIn n w₀ y base) y (drop i (candidatesIn n w₀ m)) ≡ findOf (graphOf n t) s (addedIn n w₀ y base) y (drop j (candidatesIn n w₀ m))
 
 pub at-start : {n : ℕ} {t ranks w₀ : List ℕ} {s : Settings} {y : Tally} {base i m : ℕ} → Lent n t ranks w₀ → Room n w₀ s y base i m → At n t ranks w₀ s y base i m w₀ i
 at-start lent room = record { lent = lent; room = room; from = omega arith; kept = kept-none _ _ _; same = refl }
@@ -43,7 +44,7 @@ module _ {n : ℕ} {t ranks w₀ : List ℕ} {s : Settings} {y : Tally} {base i 
   room = at .room
 
   abbrev graph : Graph
-  graph = byTable n t
+  graph = graphOf n t
 
   abbrev added : List ℕ
   added = addedIn n w₀ y base

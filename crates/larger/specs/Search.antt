@@ -5,11 +5,10 @@ use mathlib.Core.Path.{_≡_}
 use mathlib.Core.Bool.{Bool}
 use mathlib.Core.List.{List}
 use lib.ListN.{length, drop}
-use Rattle.model.specs.Graph.{byTable}
 use Rattle.model.specs.Groups.{VertexSet}
 use Rattle.model.specs.Meaning.{Clique}
 use Rattle.theory.specs.Search.{Loopless, Symmetric, Candidates}
-use Rattle.graph.specs.Table.{TableFits}
+use Rattle.graph.specs.Table.{TableFits, graphOf}
 use Rattle.ranks.specs.Ranks.{RanksFit, HoldsDegrees}
 use Rattle.isolation.specs.declared.Settings.{Settings}
 use Rattle.isolation.specs.declared.Tally.{Tally}
@@ -20,7 +19,7 @@ use Rattle.theory.specs.Parts.{part, Kept, HoldsVertices}
 pub record Lent (n : ℕ) (t ranks w : List ℕ) : Type 0 where
   pub table : TableFits n t
   pub ranks-fit : RanksFit n ranks
-  pub degrees : HoldsDegrees n (byTable n t) ranks
+  pub degrees : HoldsDegrees n (graphOf n t) ranks
   pub parts : 4 * n ≤ length w
 
 -- A state of the search: of the members with the numbers y those from place base on in part 1 were added by it, and candidates i to m - 1 of part 3
@@ -36,7 +35,7 @@ pub record Room (n : ℕ) (w : List ℕ) (s : Settings) (y : Tally) (base i m : 
 
 -- what the search answers, and what it leaves: every entry outside those of part 1 past the members is as it was
 pub record Searched (n : ℕ) (t before after : List ℕ) (s : Settings) (y : Tally) (base i m : ℕ) (r : Bool) : Type 0 where
-  pub answer : r ≡ findOf (byTable n t) s (part before (n + base) (y .members - base)) y (drop i (part before (3 * n) m))
+  pub answer : r ≡ findOf (graphOf n t) s (part before (n + base) (y .members - base)) y (drop i (part before (3 * n) m))
   pub kept : Kept (n + y .members) (2 * n) before after
 
 -- The question that `beaten` answers: the numbers y are those of a clique in a graph with no loops that is symmetric, and the first m entries of
@@ -45,13 +44,13 @@ pub record Posed (n : ℕ) (t w : List ℕ) (s : Settings) (y : Tally) (m : ℕ)
   pub set : VertexSet
   pub factor : s .factor ≤ 1024
   pub room : y .members + m ≤ n
-  pub loopless : Loopless (byTable n t)
-  pub symmetric : Symmetric (byTable n t)
-  pub clique : Clique (byTable n t) set
-  pub tally : TallyOf (byTable n t) set y
-  pub candidates : Candidates (byTable n t) set (part w (3 * n) m)
+  pub loopless : Loopless (graphOf n t)
+  pub symmetric : Symmetric (graphOf n t)
+  pub clique : Clique (graphOf n t) set
+  pub tally : TallyOf (graphOf n t) set y
+  pub candidates : Candidates (graphOf n t) set (part w (3 * n) m)
 
 -- its answer, and what it leaves: every entry outside those of part 1 past the members is as it was
 pub record Tested (n : ℕ) (t before after : List ℕ) (s : Settings) (y : Tally) (m : ℕ) (r : Bool) : Type 0 where
-  pub answer : r ≡ beatenOf (byTable n t) s y (part before (3 * n) m)
+  pub answer : r ≡ beatenOf (graphOf n t) s y (part before (3 * n) m)
   pub kept : Kept (n + y .members) (2 * n) before after

@@ -2,10 +2,9 @@
 ghost use mathlib.Core.Path.{_≡_};
 ghost use Prim.Native.Nat.{_+_, _-_, _*_, _<_, _≤_, min, max};
 ghost use lib.ListN.{length};
-ghost use Rattle.model.specs.Graph.{byTable};
 ghost use Rattle.model.specs.Listing.{is};
 ghost use Rattle.theory.specs.Search.{joinedAll};
-ghost use Rattle.graph.specs.Table.{TableFits};
+ghost use Rattle.graph.specs.Table.{TableFits, graphOf};
 ghost use Rattle.theory.specs.Parts.{part, HoldsVertices};
 ghost use Rattle.larger.specs.Search.{Lent, Room, Searched, Posed, Tested};
 use isolation::Settings;
@@ -18,7 +17,7 @@ use isolation::with_member;
 // vertices, up to the first that is not joined.
 pub fn joined_to_all(table: &[u8], n: usize, work: &[u16], v: usize, from: usize, to: usize) -> bool
     requires { ⌜ TableFits n (now table) × (v < n) × (from ≤ to) × (to ≤ length (now work)) × HoldsVertices n (now work) from (to - from) ⌝ }
-    ensures { λ r. ⌜ r ≡ joinedAll (byTable n (now (table .entry))) v (part (now (work .entry)) from (to - from)) ⌝ }
+    ensures { λ r. ⌜ r ≡ joinedAll (graphOf n (now (table .entry))) v (part (now (work .entry)) from (to - from)) ⌝ }
 {
     let mut i = from;
     while i < to {

@@ -8,7 +8,6 @@ use native.Mathlib.Nat.{not-suc-le-zero}
 use native.Mathlib.Omega.{arith}
 use lib.ListN.{length, take, replicate}
 use borrow.Author.Tests.{eqb-true, eqb-false}
-use Rattle.model.specs.Graph.{byTable}
 use Rattle.model.specs.Groups.{Settings}
 use Rattle.model.specs.Walk.{Position, Rules, fresh, finished, page, stoppedFinished}
 use Rattle.model.specs.Listing.{rules}
@@ -25,6 +24,7 @@ use Rattle.theory.proofs.calls.Pages.{replied, page-does, went-finished, chain-
 use Rattle.theory.proofs.calls.Next.{demand-accepted}
 use Rattle.theory.proofs.program.Printed.{held-add}
 use Rattle.theory.proofs.program.Program.{all-groups, pages-listed, pages-print}
+use Rattle.graph.specs.Table.{graphOf}
 use Rattle.rounds.specs.declared.PageAnswer.{PageAnswer}
 use Rattle.rounds.specs.Answer.{PageReplies}
 use Rattle.listing.specs.declared.PageDone.{PageDone}
@@ -88,7 +88,7 @@ paged-none e = record { replies = []; chain = tt; left = sym e; all-groups = ref
 module _ {n : ℕ} {t : List ℕ} {s : Settings} (valid : refuseTable n t 0 ≡ 0) (proper : refuseSettings s 0 ≡ 0) {p : Position} {g k : ℕ}
     (paged : Paged n t s p g k) (out : List ℕ) (work : ℕ) (room : 8 * n ≤ work) where
   abbrev R : Rules
-  R = rules (byTable n t) s
+  R = rules (graphOf n t) s
 
   abbrev reply : PageReply
   reply = turnReply n t s p out work

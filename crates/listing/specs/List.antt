@@ -6,7 +6,6 @@ use mathlib.Core.Bool.{true}
 use mathlib.Core.List.{List}
 use lib.ListN.{length, take}
 use lib.Dec.{eqb}
-use Rattle.model.specs.Graph.{byTable}
 use Rattle.model.specs.Groups.{Settings}
 use Rattle.model.specs.Walk.{Position, fresh, lasts, fullSets, stoppedFinished}
 use Rattle.model.specs.Listing.{rules}
@@ -15,6 +14,7 @@ use Rattle.model.specs.Demand.{leftAt, allSteps, allGroups, SomeFinished}
 use Rattle.model.specs.Program.{groupLines, held}
 use Rattle.theory.specs.Replies.{Chain}
 use Rattle.theory.specs.Printed.{printed, printedPages}
+use Rattle.graph.specs.Table.{graphOf}
 use Rattle.listing.specs.declared.PageDone.{PageDone}
 use Rattle.listing.specs.declared.totals.Totals.{Totals}
 use Rattle.print.specs.Put.{Puts}
@@ -49,7 +49,7 @@ pub record Listable (n : ℕ) (t : List ℕ) (s : Settings) : Type 0 where
 -- replies to page calls, from fresh to the position p, with their totals held
 pub record Paged (n : ℕ) (t : List ℕ) (s : Settings) (p : Position) (groups steps : ℕ) : Type 0 where
   pub replies : List PageReply
-  pub chain : Chain (rules (byTable n t) s) (fresh n) replies
+  pub chain : Chain (rules (graphOf n t) s) (fresh n) replies
   pub left : leftAt replies (fresh n) ≡ p
   pub all-groups : groups ≡ held (allGroups replies)
   pub all-steps : steps ≡ held (allSteps replies)
@@ -58,10 +58,10 @@ pub record Paged (n : ℕ) (t : List ℕ) (s : Settings) (p : Position) (groups 
 -- totals are theirs, and so the number of groups of the full list and the walk's length, both held.
 pub record Ran (n : ℕ) (t : List ℕ) (s : Settings) (r : Totals) : Type 0 where
   pub replies : List PageReply
-  pub chain : Chain (rules (byTable n t) s) (fresh n) replies
+  pub chain : Chain (rules (graphOf n t) s) (fresh n) replies
   pub ended : SomeFinished replies
   pub all-groups : r .groups ≡ held (allGroups replies)
   pub all-steps : r .steps ≡ held (allSteps replies)
-  pub pages : printedPages replies ≡ groupLines (byTable n t) (fullSets (rules (byTable n t) s) n)
-  pub full-groups : r .groups ≡ held (length (fullSets (rules (byTable n t) s) n))
-  pub full-steps : (k : ℕ) × (lasts (rules (byTable n t) s) k (fresh n) ≡ true) × (r .steps ≡ held k)
+  pub pages : printedPages replies ≡ groupLines (graphOf n t) (fullSets (rules (graphOf n t) s) n)
+  pub full-groups : r .groups ≡ held (length (fullSets (rules (graphOf n t) s) n))
+  pub full-steps : (k : ℕ) × (lasts (rules (graphOf n t) s) k (fresh n) ≡ true) × (r .steps ≡ held k)

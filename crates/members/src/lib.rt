@@ -3,10 +3,9 @@ ghost use mathlib.Core.Path.{_≡_};
 ghost use Prim.Native.Nat.{_+_, _*_, _≤_};
 ghost use lib.ListN.{length};
 ghost use Rattle.model.specs.Below.{passing};
-ghost use Rattle.model.specs.Graph.{byTable};
 ghost use Rattle.model.specs.Listing.{is};
 ghost use Rattle.theory.specs.Search.{joinedAll};
-ghost use Rattle.graph.specs.Table.{TableFits};
+ghost use Rattle.graph.specs.Table.{TableFits, graphOf};
 ghost use Rattle.ranks.specs.Ranks.{RanksFit};
 ghost use Rattle.theory.specs.Parts.{part, Filled};
 ghost use Rattle.members.specs.Members.{HoldsMembers, pairwise, Tallies};
@@ -34,7 +33,7 @@ pub fn members_of(set: &[u8], n: usize, work: &mut [u16]) -> usize
 // Whether the k members in part 1 of work are pairwise joined: each is joined to all before it. Reads the table and the members.
 pub fn pairwise_joined(table: &[u8], n: usize, work: &[u16], k: usize) -> bool
     requires { ⌜ TableFits n (now table) × HoldsMembers n (now work) k ⌝ }
-    ensures { λ r. ⌜ r ≡ pairwise (byTable n (now (table .entry))) (part (now (work .entry)) n k) ⌝ }
+    ensures { λ r. ⌜ r ≡ pairwise (graphOf n (now (table .entry))) (part (now (work .entry)) n k) ⌝ }
 {
     let mut i = 0;
     while i < k {
@@ -74,7 +73,7 @@ pub fn tally_of(ranks: &[u16], n: usize, work: &[u16], k: usize) -> Tally
 // document 002, section 2.2.3). Reads the table at the members.
 pub fn common_neighbours(table: &[u8], n: usize, work: &mut [u16], k: usize) -> usize
     requires { ⌜ TableFits n (now table) × HoldsMembers n (now work) k ⌝ }
-    ensures { λ m. ⌜ Filled (3 * n) (3 * n + n) (passing n (λ v. joinedAll (byTable n (now (table .entry))) v (part (now (work .entry)) n k))) (now (work .entry)) (now (work .exit)) m × (m ≤ n) ⌝ }
+    ensures { λ m. ⌜ Filled (3 * n) (3 * n + n) (passing n (λ v. joinedAll (graphOf n (now (table .entry))) v (part (now (work .entry)) n k))) (now (work .entry)) (now (work .exit)) m × (m ≤ n) ⌝ }
 {
     let end = n + k;
     let mut m: usize = 0;

@@ -12,14 +12,22 @@ pub record Graph : Type 0 where
   pub size : ℕ
   pub joined : ℕ → ℕ → Bool
 
--- The graph on n vertices in which u and v are joined where f says so. What is not a vertex is joined to nothing, so that two tables that
--- agree on the vertices give one and the same graph.
-unfoldable pub onVertices : ℕ → (ℕ → ℕ → Bool) → Graph
-onVertices n f = record { size = n; joined = λ u v. ltb u n && ltb v n && f u v }
+-- u and v are vertices, and f says that they are joined. What is not a vertex is joined to nothing, so that two tables that agree on the
+-- vertices give one and the same graph
+unfoldable pub amongVertices : ℕ → (ℕ → ℕ → Bool) → ℕ → ℕ → Bool
+amongVertices n f u v = ltb u n && ltb v n && f u v
 
--- Document 01, "Graph and ranks": the table is n × n bytes, row by row; byte u × n + v is 1 if u and v are joined
-unfoldable pub byTable : ℕ → List ℕ → Graph
-byTable n t = onVertices n (λ u v. eqb (getD t (u * n + v) 0) 1)
+-- the graph on n vertices in which u and v are joined where f says so
+abbrev pub onVertices : ℕ → (ℕ → ℕ → Bool) → Graph
+onVertices n f = record { size = n; joined = amongVertices n f }
+
+-- Document 01, "Graph and ranks": byte u × n + v is 1 if u and v are joined
+unfoldable pub byteJoined : ℕ → List ℕ → ℕ → ℕ → Bool
+byteJoined n t u v = eqb (getD t (u * n + v) 0) 1
+
+-- Document 01, "Graph and ranks": the table is n × n bytes, row by row
+abbrev pub byTable : ℕ → List ℕ → Graph
+byTable n t = onVertices n (byteJoined n t)
 
 -- Document 01, "Graph and ranks": the degree of a vertex is the ones in its row
 unfoldable pub degree : Graph → ℕ → ℕ

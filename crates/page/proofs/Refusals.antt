@@ -9,14 +9,13 @@ use mathlib.Core.Logic.{_≢_}
 use lib.ListN.{length}
 use lib.Dec.{ltb, eqb}
 use borrow.Author.Tests.{eqb-true, eq-eqb, ne-eqb, lt-ltb, le-ltb, ltb-false, not-false}
-use Rattle.model.specs.Graph.{byTable}
 use Rattle.model.specs.Groups.{Settings}
 use Rattle.model.specs.Walk.{Position}
 use Rattle.model.specs.Listing.{rules}
 use Rattle.model.specs.Calls.{refuse, over, gap, refuseTable, refuseSettings, refuseLengths, refusePosition, refusePage}
 use Rattle.theory.proofs.basics.Gates.{Gate, gate-one, gate-then, open-gate, shut, gate-passed}
 use Rattle.theory.proofs.calls.PageAccepted.{refuse-pass}
-use Rattle.graph.specs.Table.{TableFits}
+use Rattle.graph.specs.Table.{TableFits, graphOf}
 use Rattle.graph.proofs.Refusals.{table-gate, table-accepted}
 use Rattle.isolation.proofs.Refusals.{settings-gate, factor-small}
 
@@ -93,13 +92,13 @@ module _ (n : ℕ) (t : List ℕ) (s : Settings) (p : Position) (work : ℕ) whe
 
   pub refused-input : {r : ℕ} → r ≡ inputs 0 → r ≢ 0 → r ≡ refusePage n t s p work
   unfolding refusePage
-  refused-input e d = e ∙ sym (shut _ inputs-gate (λ z. d (e ∙ z)) (refusePosition (rules (byTable n t) s) p))
+  refused-input e d = e ∙ sym (shut _ inputs-gate (λ z. d (e ∙ z)) (refusePosition (rules (graphOf n t) s) p))
 
-  pub refused-position : {a r : ℕ} → a ≡ inputs 0 → a ≡ 0 → r ≡ refusePosition (rules (byTable n t) s) p → r ≡ refusePage n t s p work
+  pub refused-position : {a r : ℕ} → a ≡ inputs 0 → a ≡ 0 → r ≡ refusePosition (rules (graphOf n t) s) p → r ≡ refusePage n t s p work
   unfolding refusePage
-  refused-position i z e = e ∙ sym (open-gate _ inputs-gate (sym i ∙ z) (refusePosition (rules (byTable n t) s) p))
+  refused-position i z e = e ∙ sym (open-gate _ inputs-gate (sym i ∙ z) (refusePosition (rules (graphOf n t) s) p))
 
 -- what a position has that passes 21 to 23
-pub position-passes : (n : ℕ) (t : List ℕ) (s : Settings) (p : Position) {r : ℕ} → r ≡ refusePosition (rules (byTable n t) s) p → r ≡ 0 → (over 2 p ≡ false) × (gap p ≡ false)
+pub position-passes : (n : ℕ) (t : List ℕ) (s : Settings) (p : Position) {r : ℕ} → r ≡ refusePosition (rules (graphOf n t) s) p → r ≡ 0 → (over 2 p ≡ false) × (gap p ≡ false)
 unfolding refusePosition
 position-passes n t s p e z = let a = refuse-pass 20 _ _ (sym e ∙ z) in (a .0, refuse-pass 21 _ _ (a .1) .0)

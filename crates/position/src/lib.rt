@@ -4,10 +4,10 @@ ghost use mathlib.Core.Path.{_≡_};
 ghost use Prim.Native.Nat.{_≤_, _<_};
 ghost use lib.ListN.{length};
 ghost use Rattle.model.specs.Below.{least};
-ghost use Rattle.model.specs.Graph.{byTable};
 ghost use Rattle.model.specs.Groups.{Settings};
 ghost use Rattle.model.specs.Listing.{is, adjacent, apart, leftNeighbours, dead, rules};
 ghost use Rattle.model.specs.Calls.{gap, refusePosition};
+ghost use Rattle.graph.specs.Table.{graphOf};
 ghost use Rattle.ranks.specs.Ranks.{HoldsRanks};
 ghost use Rattle.position.specs.Position.{stranger, apartAt, leftNeighbour};
 use graph::any_over;
@@ -52,7 +52,7 @@ fn has_gap(position: &[u8]) -> bool
 // Whether the vertices at ranks a and b are joined, of the graph on n vertices that the table holds and whose rank order `ranks` holds.
 fn adjacent_at(table: &[u8], ranks: &[u16], n: usize, a: usize, b: usize) -> bool
     requires { ⌜ HoldsRanks n (now table) (now ranks) × (a < n) × (b < n) ⌝ }
-    ensures { λ r. ⌜ r ≡ adjacent (byTable n (now (table .entry))) a b ⌝ }
+    ensures { λ r. ⌜ r ≡ adjacent (graphOf n (now (table .entry))) a b ⌝ }
 {
     let u = entry_at(ranks, a);
     let v = entry_at(ranks, b);
@@ -62,7 +62,7 @@ fn adjacent_at(table: &[u8], ranks: &[u16], n: usize, a: usize, b: usize) -> boo
 // Whether rank i of a position is taken and not adjacent to rank s.
 fn is_stranger(table: &[u8], ranks: &[u16], n: usize, position: &[u8], s: usize, i: usize) -> bool
     requires { ⌜ HoldsRanks n (now table) (now ranks) × (length (now position) ≤ n) × (s < n) × (i < length (now position)) ⌝ }
-    ensures { λ r. ⌜ r ≡ stranger (byTable n (now (table .entry))) (now (position .entry)) s i ⌝ }
+    ensures { λ r. ⌜ r ≡ stranger (graphOf n (now (table .entry))) (now (position .entry)) s i ⌝ }
 {
     if position[i] != 1 {
         return false;
@@ -73,7 +73,7 @@ fn is_stranger(table: &[u8], ranks: &[u16], n: usize, position: &[u8], s: usize,
 // Whether rank s of a position is taken and some taken rank below it is not adjacent to it. Reads the position up to s.
 fn is_apart_at(table: &[u8], ranks: &[u16], n: usize, position: &[u8], s: usize) -> bool
     requires { ⌜ HoldsRanks n (now table) (now ranks) × (length (now position) ≤ n) × (s < length (now position)) ⌝ }
-    ensures { λ r. ⌜ r ≡ apartAt (byTable n (now (table .entry))) (now (position .entry)) s ⌝ }
+    ensures { λ r. ⌜ r ≡ apartAt (graphOf n (now (table .entry))) (now (position .entry)) s ⌝ }
 {
     if position[s] != 1 {
         return false;
@@ -91,7 +91,7 @@ fn is_apart_at(table: &[u8], ranks: &[u16], n: usize, position: &[u8], s: usize)
 // Whether two taken ranks of a position are not adjacent; ranks past its end are open. Reads the position.
 fn is_apart(table: &[u8], ranks: &[u16], n: usize, position: &[u8]) -> bool
     requires { ⌜ HoldsRanks n (now table) (now ranks) × (length (now position) ≤ n) ⌝ }
-    ensures { λ r. ⌜ r ≡ apart (byTable n (now (table .entry))) (now (position .entry)) ⌝ }
+    ensures { λ r. ⌜ r ≡ apart (graphOf n (now (table .entry))) (now (position .entry)) ⌝ }
 {
     let mut s = 0;
     while s < position.len() {
@@ -113,7 +113,7 @@ fn is_left_neighbour(
     i: usize,
 ) -> bool
     requires { ⌜ HoldsRanks n (now table) (now ranks) × (length (now position) ≤ n) × (pivot < n) × (i < length (now position)) ⌝ }
-    ensures { λ r. ⌜ r ≡ leftNeighbour (byTable n (now (table .entry))) (now (position .entry)) pivot i ⌝ }
+    ensures { λ r. ⌜ r ≡ leftNeighbour (graphOf n (now (table .entry))) (now (position .entry)) pivot i ⌝ }
 {
     if position[i] != 2 {
         return false;
@@ -124,7 +124,7 @@ fn is_left_neighbour(
 // How many left ranks of a position are adjacent to the rank `pivot`: these stay outside every set that the position leads to. Reads the position.
 fn left_of_pivot(table: &[u8], ranks: &[u16], n: usize, position: &[u8], pivot: usize) -> usize
     requires { ⌜ HoldsRanks n (now table) (now ranks) × (length (now position) ≤ n) × (pivot < n) ⌝ }
-    ensures { λ r. ⌜ r ≡ leftNeighbours (byTable n (now (table .entry))) (now (position .entry)) pivot ⌝ }
+    ensures { λ r. ⌜ r ≡ leftNeighbours (graphOf n (now (table .entry))) (now (position .entry)) pivot ⌝ }
 {
     let mut sum: usize = 0;
     let mut i = 0;
@@ -141,7 +141,7 @@ fn left_of_pivot(table: &[u8], ranks: &[u16], n: usize, position: &[u8], pivot: 
 // least c neighbours of the pivot are left, which by documents 000, section 2, and 002, section 2.2, leaves no isolated clique with that pivot. Reads the position.
 fn is_dead(table: &[u8], ranks: &[u16], n: usize, c: u32, position: &[u8]) -> bool
     requires { ⌜ HoldsRanks n (now table) (now ranks) × (length (now position) ≤ n) ⌝ }
-    ensures { λ r. ⌜ r ≡ dead (byTable n (now (table .entry))) c (now (position .entry)) ⌝ }
+    ensures { λ r. ⌜ r ≡ dead (graphOf n (now (table .entry))) c (now (position .entry)) ⌝ }
 {
     if is_apart(table, ranks, n, position) {
         return true;
@@ -161,7 +161,7 @@ pub fn position_refusal(table: &[u8], ranks: &[u16], n: usize, c: u32, position:
     requires { ⌜ HoldsRanks n (now table) (now ranks) × (length (now position) ≡ n) ⌝ }
     ensures { λ r. ⌜
         ((s : Settings) → s .factor ≡ c
-        → r ≡ refusePosition (rules (byTable n (now (table .entry))) s) (now (position .entry)))
+        → r ≡ refusePosition (rules (graphOf n (now (table .entry))) s) (now (position .entry)))
         ⌝ }
 {
     if any_over(2, position) {

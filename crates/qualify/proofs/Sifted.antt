@@ -8,11 +8,12 @@ use native.Mathlib.Numerals.{add-one}
 use native.Mathlib.Omega.{arith}
 use lib.ListN.{length, getD, take, set, length-map}
 use lib.Seq.{take-suc, take-length}
-use Rattle.model.specs.Graph.{Graph, byTable, vertexAt}
+use Rattle.model.specs.Graph.{Graph, vertexAt}
 use Rattle.theory.specs.Search.{joinedAll}
 use Rattle.theory.specs.Parts.{part, Kept, HoldsVertices, Filled}
 use Rattle.theory.proofs.basics.Parts.{part-length, part-at, same-members, filled-none, filled-push, filled-pass}
 use Rattle.theory.proofs.basics.Passing.{map-at}
+use Rattle.graph.specs.Table.{graphOf}
 use Rattle.ranks.proofs.Ranks.{entry-below}
 use Rattle.qualify.specs.Qualify.{joinedOf, Sifts, Sifted}
 
@@ -30,18 +31,18 @@ joinedOf-push G us (u ∷ vs) v = go (joinedAll G u us) (joinedOf-push G us vs v
 
 -- of the first j left vertices those that are joined to each taken one
 abbrev pub sifted : ℕ → List ℕ → List ℕ → ℕ → ℕ → ℕ → List ℕ
-sifted n t w taken left j = joinedOf (byTable n t) (part w n taken) (take j (map (vertexAt (byTable n t)) (part w (2 * n) left)))
+sifted n t w taken left j = joinedOf (graphOf n t) (part w n taken) (take j (map (vertexAt (graphOf n t)) (part w (2 * n) left)))
 
 module _ {n : ℕ} {t ranks w₀ : List ℕ} {taken left : ℕ} (a : Sifts n t ranks w₀ taken left) where
   -- the left vertices
   abbrev lefts : List ℕ
-  lefts = map (vertexAt (byTable n t)) (part w₀ (2 * n) left)
+  lefts = map (vertexAt (graphOf n t)) (part w₀ (2 * n) left)
 
   part-full : length (part w₀ (2 * n) left) ≡ left
   part-full = let r = a .room in let k = a .few-left in part-length w₀ (2 * n) left (omega arith)
 
   lefts-length : length lefts ≡ left
-  lefts-length = length-map (part w₀ (2 * n) left) (vertexAt (byTable n t)) ∙ part-full
+  lefts-length = length-map (part w₀ (2 * n) left) (vertexAt (graphOf n t)) ∙ part-full
 
   pub sifted-none : Filled (3 * n) (3 * n + n) (sifted n t w₀ taken left 0) w₀ w₀ 0
   unfolding joinedOf
@@ -59,7 +60,7 @@ module _ {n : ℕ} {t ranks w₀ : List ℕ} {taken left : ℕ} (a : Sifts n t r
         let e : j ≡ length lefts = omega arith in
         record {
           fewer = omega arith;
-          holds = s .listed ∙ ap (joinedOf (byTable n t) (part w₀ n taken)) (ap (λ (i : ℕ). take i lefts) e ∙ take-length lefts);
+          holds = s .listed ∙ ap (joinedOf (graphOf n t) (part w₀ n taken)) (ap (λ (i : ℕ). take i lefts) e ∙ take-length lefts);
           kept = s .kept;
         }
 
@@ -81,25 +82,25 @@ module _ {n : ℕ} {t ranks w₀ : List ℕ} {taken left : ℕ} (a : Sifts n t r
       vertex-is =
           let l = part-full in
           a .ranked .order (getD w (2 * n + j) 0) rank-small
-          ∙ ap (vertexAt (byTable n t)) (rank-kept ∙ sym (part-at w₀ (2 * n) left j h))
-          ∙ sym (map-at (vertexAt (byTable n t)) (part w₀ (2 * n) left) j (omega arith))
+          ∙ ap (vertexAt (graphOf n t)) (rank-kept ∙ sym (part-at w₀ (2 * n) left j h))
+          ∙ sym (map-at (vertexAt (graphOf n t)) (part w₀ (2 * n) left) j (omega arith))
 
-      further : (b : Bool) → b ≡ joinedAll (byTable n t) vertex (part w n (n + taken - n))
+      further : (b : Bool) → b ≡ joinedAll (graphOf n t) vertex (part w n (n + taken - n))
           → sifted n t w₀ taken left (j + 1) ≡ sifted n t w₀ taken left j ++ cond b (vertex ∷ []) []
       further b e =
           let l = lefts-length in
           let us = part w₀ n taken in
-          ap (joinedOf (byTable n t) us) (ap (λ (i : ℕ). take i lefts) (add-one j) ∙ take-suc lefts j 0 (omega arith))
-          ∙ joinedOf-push (byTable n t) us (take j lefts) (getD lefts j 0)
-          ∙ ap (λ (v : ℕ). sifted n t w₀ taken left j ++ cond (joinedAll (byTable n t) v us) (v ∷ []) []) (sym vertex-is)
+          ap (joinedOf (graphOf n t) us) (ap (λ (i : ℕ). take i lefts) (add-one j) ∙ take-suc lefts j 0 (omega arith))
+          ∙ joinedOf-push (graphOf n t) us (take j lefts) (getD lefts j 0)
+          ∙ ap (λ (v : ℕ). sifted n t w₀ taken left j ++ cond (joinedAll (graphOf n t) v us) (v ∷ []) []) (sym vertex-is)
           ∙ ap (λ (c : Bool). sifted n t w₀ taken left j ++ cond c (vertex ∷ []) [])
-          (ap (joinedAll (byTable n t) vertex) (sym (same-members n taken w₀ w (s .kept) (a .few-taken))) ∙ sym e)
+          (ap (joinedAll (graphOf n t) vertex) (sym (same-members n taken w₀ w (s .kept) (a .few-taken))) ∙ sym e)
 
       -- it is written where it is joined to all, and else passed over
-      pub sifted-hit : m ≤ j → true ≡ joinedAll (byTable n t) vertex (part w n (n + taken - n))
+      pub sifted-hit : m ≤ j → true ≡ joinedAll (graphOf n t) vertex (part w n (n + taken - n))
           → Filled (3 * n) (3 * n + n) (sifted n t w₀ taken left (j + 1)) w₀ (set w (3 * n + m) vertex) (m + 1)
       sifted-hit f e = let k = a .few-left in let r = a .room in filled-push _ _ _ s vertex _ (further true e) (omega arith) (omega arith)
 
-      pub sifted-miss : false ≡ joinedAll (byTable n t) vertex (part w n (n + taken - n))
+      pub sifted-miss : false ≡ joinedAll (graphOf n t) vertex (part w n (n + taken - n))
           → Filled (3 * n) (3 * n + n) (sifted n t w₀ taken left (j + 1)) w₀ w m
       sifted-miss e = filled-pass _ _ _ s _ (further false e ∙ append-nil _)

@@ -10,7 +10,7 @@ use native.Mathlib.Omega.{arith}
 use lib.ListN.{length, getD}
 use borrow.Author.Tests.{eqb-true}
 use Rattle.model.specs.Below.{bit, count}
-use Rattle.model.specs.Graph.{Graph, onVertices, byTable, degree, vertexAt}
+use Rattle.model.specs.Graph.{Graph, degree, vertexAt}
 use Rattle.model.specs.Walk.{Position, has, found}
 use Rattle.model.specs.Listing.{is, adjacent, pivot, apart, takenSet, takenList, rules}
 use Rattle.theory.specs.Search.{Loopless, Symmetric, Candidates}
@@ -25,6 +25,7 @@ use Rattle.isolation.specs.Numbers.{settingsOf, isolatedOf, beatenOf, TallyOf}
 use Rattle.theory.specs.Parts.{part}
 use Rattle.larger.specs.Search.{Lent, Posed, Tested}
 use Rattle.theory.proofs.basics.Parts.{part-same}
+use Rattle.graph.specs.Table.{graphOf}
 use Rattle.state.specs.declared.State.{State}
 use Rattle.state.specs.State.{takenRanks, leftRanks, Stands}
 use Rattle.qualify.specs.Qualify.{joinedOf, candidatesOf, Sifts, Sifted, tallyOf, readTally, TallyFits, Asks, SaysQualifies}
@@ -96,7 +97,7 @@ same-tally x y a b c d i = record { members = a i; sum = b i; least = c i; large
 
 module _ {n : ℕ} {t ranks w : List ℕ} {q : Settings} {s : State} (a : Asks n t ranks w q s) where
   abbrev G : Graph
-  G = byTable n t
+  G = graphOf n t
 
   abbrev p₀ : Position
   p₀ = a .stands .0
@@ -105,11 +106,9 @@ module _ {n : ℕ} {t ranks w : List ℕ} {q : Settings} {s : State} (a : Asks n
   h₀ = a .stands .1
 
   loopless : Loopless G
-  unfolding byTable onVertices
   loopless = table-accepted n t (a .accepted) .no-loop
 
   symmetric : Symmetric G
-  unfolding byTable onVertices
   symmetric = table-accepted n t (a .accepted) .both-ways
 
   pub taken-few : s .taken ≤ n
@@ -150,7 +149,6 @@ module _ {n : ℕ} {t ranks w : List ℕ} {q : Settings} {s : State} (a : Asks n
 
     -- what is read is the taken set's numbers
     tally-is : (p : Position) → Stands G p w s → readTally n ranks w s ≡ tallyOf G p
-    unfolding byTable onVertices
     tally-is p h =
         let l = length-taken p h in
         let first = vertex-entry G p w s h 0 some in
@@ -190,7 +188,7 @@ module _ {n : ℕ} {t ranks w : List ℕ} {q : Settings} {s : State} (a : Asks n
       left-few = let z = table-size n t in let b = h₀ .bound in let c = h₀ .left-bound in omega arith
 
       pub sifts : Sifts n t ranks w (s .taken) (s .left)
-      unfolding byTable onVertices leftRanks
+      unfolding leftRanks
       sifts =
           record {
             ranked = a .ranked;
@@ -210,7 +208,7 @@ module _ {n : ℕ} {t ranks w : List ℕ} {q : Settings} {s : State} (a : Asks n
 
       module _ {w₁ : List ℕ} {m : ℕ} (f : Sifted n t w w₁ (s .taken) (s .left) m) where
         candidates-are : (p : Position) → Stands G p w s → part w₁ (3 * n) m ≡ candidatesOf G p
-        unfolding candidatesOf byTable onVertices
+        unfolding candidatesOf
         candidates-are p h = f .holds ∙ ap₂ (λ (us vs : List ℕ). joinedOf G us (map (vertexAt G) vs)) (h .vertices) (h .left)
 
         pub lent : Lent n t ranks w₁
@@ -252,7 +250,6 @@ module _ {n : ℕ} {t ranks w : List ℕ} {q : Settings} {s : State} (a : Asks n
 
         -- an isolated taken set: it qualifies where it is not beaten
         pub judged-by : isolatedOf q y ≡ true → {w₂ : List ℕ} {b : Bool} → Tested n t w₁ w₂ q y m b → SaysQualifies n t w w₂ q s (not b)
-        unfolding byTable onVertices
         judged-by i {w₂} {b} x =
             record {
               answer = λ p h.

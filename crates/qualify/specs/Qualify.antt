@@ -5,7 +5,7 @@ use mathlib.Core.Path.{_≡_}
 use mathlib.Core.Bool.{Bool, cond}
 use mathlib.Core.List.{List, [], _∷_, map}
 use lib.ListN.{length, getD}
-use Rattle.model.specs.Graph.{Graph, byTable, degree, vertexAt}
+use Rattle.model.specs.Graph.{Graph, degree, vertexAt}
 use Rattle.model.specs.Walk.{Position, found}
 use Rattle.model.specs.Listing.{takenList, rules}
 use Rattle.model.specs.Calls.{refuseTable}
@@ -15,6 +15,7 @@ use Rattle.isolation.specs.declared.Settings.{Settings}
 use Rattle.isolation.specs.declared.Tally.{Tally}
 use Rattle.isolation.specs.Numbers.{settingsOf}
 use Rattle.theory.specs.Parts.{part, Kept, HoldsVertices}
+use Rattle.graph.specs.Table.{graphOf}
 use Rattle.state.specs.declared.State.{State}
 use Rattle.state.specs.State.{leftRanks, degreesOf, Stands, StandsForOne}
 
@@ -39,7 +40,7 @@ pub record Sifts (n : ℕ) (t ranks w : List ℕ) (taken left : ℕ) : Type 0 wh
 -- what it leaves: m vertices in part 3, those of the left ones that are joined to each taken one
 pub record Sifted (n : ℕ) (t before after : List ℕ) (taken left m : ℕ) : Type 0 where
   pub fewer : m ≤ left
-  pub holds : part after (3 * n) m ≡ joinedOf (byTable n t) (part before n taken) (map (vertexAt (byTable n t)) (part before (2 * n) left))
+  pub holds : part after (3 * n) m ≡ joinedOf (graphOf n t) (part before n taken) (map (vertexAt (graphOf n t)) (part before (2 * n) left))
   pub kept : Kept (3 * n) (3 * n + n) before after
 
 -- the taken set's numbers: how many, the sum of their degrees, the least, which is the first one's, and the largest, which is the last one's
@@ -76,10 +77,10 @@ pub record Asks (n : ℕ) (t ranks w : List ℕ) (q : Settings) (s : State) : Ty
   pub ranked : HoldsRanks n t ranks
   pub accepted : refuseTable n t 0 ≡ 0
   pub factor : q .factor ≤ 1024
-  pub stands : StandsForOne (byTable n t) w s
+  pub stands : StandsForOne (graphOf n t) w s
 
 -- its answer for each position for which the state stands, and that the state still stands for it
 pub record SaysQualifies (n : ℕ) (t before after : List ℕ) (q : Settings) (s : State) (r : Bool) : Type 0 where
-  pub answer : (p : Position) → Stands (byTable n t) p before s → r ≡ found (rules (byTable n t) (settingsOf q)) p
-  pub stands : (p : Position) → Stands (byTable n t) p before s → Stands (byTable n t) p after s
+  pub answer : (p : Position) → Stands (graphOf n t) p before s → r ≡ found (rules (graphOf n t) (settingsOf q)) p
+  pub stands : (p : Position) → Stands (graphOf n t) p before s → Stands (graphOf n t) p after s
   pub length-kept : length after ≡ length before

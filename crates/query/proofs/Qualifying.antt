@@ -8,7 +8,7 @@ use mathlib.Core.Logic.{_≢_}
 use native.Mathlib.Omega.{arith}
 use lib.ListN.{length, getD}
 use Rattle.model.specs.Below.{passing}
-use Rattle.model.specs.Graph.{Graph, byTable}
+use Rattle.model.specs.Graph.{Graph}
 use Rattle.model.specs.Groups.{VertexSet, sizeOf, qualifies}
 use Rattle.model.specs.Meaning.{Clique}
 use Rattle.model.specs.Listing.{is}
@@ -32,6 +32,7 @@ use Rattle.larger.specs.Search.{Lent, Posed, Tested}
 use Rattle.members.specs.Members.{HoldsMembers, pairwise, Tallies}
 use Rattle.query.specs.Query.{QueryReady, Decided}
 use Rattle.theory.proofs.basics.Parts.{part-length, part-at}
+use Rattle.graph.specs.Table.{graphOf}
 use Rattle.members.proofs.Listed.{clique-test}
 use Rattle.query.proofs.Refusals.{QueryAccepted, query-accepted}
 
@@ -58,7 +59,7 @@ both-fit G S =
 
 module _ {n : ℕ} {t ranks bs w₀ : List ℕ} {s : Settings} (ready : QueryReady n t ranks bs w₀ s) where
   abbrev graph : Graph
-  graph = byTable n t
+  graph = graphOf n t
 
   abbrev members : VertexSet
   members = byBytes bs

@@ -7,10 +7,10 @@ use mathlib.Core.List.{List}
 use mathlib.Core.Logic.{_≢_}
 use lib.ListN.{length}
 use Rattle.model.specs.Below.{bit}
-use Rattle.model.specs.Graph.{byTable}
 use Rattle.model.specs.Groups.{settings, qualifies}
 use Rattle.model.specs.Groups as groups
 use Rattle.model.specs.Calls.{byBytes, refuseQuery, query}
+use Rattle.graph.specs.Table.{graphOf}
 use Rattle.ranks.specs.Ranks.{RanksFit, HoldsDegrees}
 use Rattle.isolation.specs.declared.Settings.{Settings}
 use Rattle.query.specs.declared.SetAnswer.{SetAnswer}
@@ -20,11 +20,11 @@ use Rattle.isolation.specs.Numbers.{settingsOf}
 pub record QueryReady (n : ℕ) (t ranks bs w : List ℕ) (s : Settings) : Type 0 where
   pub accepted : refuseQuery n t (settingsOf s) bs (length w) ≡ 0
   pub ranks-fit : RanksFit n ranks
-  pub degrees : HoldsDegrees n (byTable n t) ranks
+  pub degrees : HoldsDegrees n (graphOf n t) ranks
 
 -- whether the set qualifies, and the work slice as long as before
 pub record Decided (n : ℕ) (t bs before after : List ℕ) (s : groups.Settings) (r : Bool) : Type 0 where
-  pub answer : r ≡ qualifies (byTable n t) s (byBytes bs)
+  pub answer : r ≡ qualifies (graphOf n t) s (byBytes bs)
   pub length-kept : length after ≡ length before
 
 -- Document 01, "One set, one text, one program" and "Turned back by the input": the answer of `query` of crate model as two numbers; the work slice

@@ -7,10 +7,10 @@ use mathlib.Core.List.{List}
 use mathlib.Core.Logic.{_≢_}
 use native.Mathlib.Omega.{arith}
 use lib.ListN.{length}
-use Rattle.model.specs.Graph.{byTable}
 use Rattle.model.specs.Walk.{Position, Rules, finished, step, found, page}
 use Rattle.model.specs.Listing.{rules}
 use Rattle.model.specs.Calls.{replyOf}
+use Rattle.graph.specs.Table.{graphOf}
 use Rattle.graph.proofs.Table.{table-size}
 use Rattle.isolation.specs.declared.Settings.{Settings}
 use Rattle.isolation.specs.Numbers.{settingsOf}
@@ -28,7 +28,7 @@ use Rattle.rounds.proofs.Turn.{bit-le, turn-start, turn-length, turn-st
 
 -- the rules of a call
 abbrev pub callRules : ℕ → List ℕ → Settings → Rules
-callRules n t q = rules (byTable n t) (settingsOf q)
+callRules n t q = rules (graphOf n t) (settingsOf q)
 
 -- between two rounds
 pub record Running (n : ℕ) (t ranks : List ℕ) (q : Settings) (budget : ℕ) (p₀ : Position) (out₀ w₀ : List ℕ) (p : Position) (out w : List ℕ) (s : State)
@@ -41,7 +41,7 @@ pub record Running (n : ℕ) (t ranks : List ℕ) (q : Settings) (budget : ℕ) 
   pub position-long : length p ≡ length p₀
 
 -- a step does not look at notion and kind
-step-same : (n : ℕ) (t : List ℕ) (q : Settings) (p : Position) → step (rulesAt (byTable n t) (q .factor)) p ≡ step (callRules n t q) p
+step-same : (n : ℕ) (t : List ℕ) (q : Settings) (p : Position) → step (rulesAt (graphOf n t) (q .factor)) p ≡ step (callRules n t q) p
 unfolding step
 step-same n t q p = refl
 
@@ -58,7 +58,7 @@ module _ {n : ℕ} {t ranks : List ℕ} {q : Settings} {budget : ℕ} {p₀ : Po
 
   -- what the test for the walk's end says
   pub says : {b : Bool} → SaysFinished n s b → finished p ≡ b
-  says f = sym (f (byTable n t) p w (table-size n t) (r .walking .stands))
+  says f = sym (f (graphOf n t) p w (table-size n t) (r .walking .stands))
 
   -- what putting out asks for
   pub asks : Asks n t ranks w q s × (used ≤ length out)
@@ -93,7 +93,7 @@ module _ {n : ℕ} {t ranks : List ℕ} {q : Settings} {budget : ℕ} {p₀ : Po
             let m = more unspent in
             omega arith
 
-        pub running-on : {p₂ : Position} {w₂ : List ℕ} {s₂ : State} → Stepped (byTable n t) (q .factor) p p₂ w₂ s₂ → length w₂ ≡ length w₀ → length p₂ ≡ length p
+        pub running-on : {p₂ : Position} {w₂ : List ℕ} {s₂ : State} → Stepped (graphOf n t) (q .factor) p p₂ w₂ s₂ → length w₂ ≡ length w₀ → length p₂ ≡ length p
             → Running n t ranks q budget p₀ out₀ w₀ p₂ out₁ w₂ s₂ (steps + 1) (groups + put .groups) (put .used) wanted
         running-on {p₂} {w₂} {s₂} m l k =
             record {
@@ -104,8 +104,8 @@ module _ {n : ℕ} {t ranks : List ℕ} {q : Settings} {budget : ℕ} {p₀ : Po
                   record {
                     accepted = r .walking .accepted;
                     ranked = r .walking .ranked;
-                    stands = subst⁻¹ (λ (x : Position). Stands (byTable n t) x w₂ s₂) (m .position) (m .stands);
-                    passes = subst⁻¹ (λ (x : Position). Passes (byTable n t) (q .factor) x) (m .position) (m .passes);
+                    stands = subst⁻¹ (λ (x : Position). Stands (graphOf n t) x w₂ s₂) (m .position) (m .stands);
+                    passes = subst⁻¹ (λ (x : Position). Passes (graphOf n t) (q .factor) x) (m .position) (m .passes);
                   };
               factor = r .factor;
               none-wanted = r .none-wanted;

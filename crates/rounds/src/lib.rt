@@ -2,10 +2,10 @@
 ghost use mathlib.Core.Path.{_≡_};
 ghost use Prim.Native.Nat.{_≤_};
 ghost use lib.ListN.{length};
-ghost use Rattle.model.specs.Graph.{byTable};
 ghost use Rattle.model.specs.Walk.{page};
 ghost use Rattle.model.specs.Listing.{rules};
 ghost use Rattle.model.specs.Calls.{replyOf};
+ghost use Rattle.graph.specs.Table.{graphOf};
 ghost use Rattle.isolation.specs.Numbers.{settingsOf};
 ghost use Rattle.walk.specs.Walk.{Walking};
 ghost use Rattle.rounds.specs.Answer.{stopNumber, PageReplies};
@@ -61,7 +61,7 @@ pub fn run(
     requires { ⌜ Walking n (q .factor) (now table) (now ranks) (now position) (now work) first × (q .factor ≤ 1024) ⌝ }
     ensures { λ r. ⌜
         PageReplies r (now (position .exit)) (now (output .exit))
-        (replyOf 0 (page (rules (byTable n (now (table .entry))) (settingsOf q)) budget (length (now (output .entry))) (now (position .entry)))
+        (replyOf 0 (page (rules (graphOf n (now (table .entry))) (settingsOf q)) budget (length (now (output .entry))) (now (position .entry)))
         (now (position .entry)) (now (output .entry)))
         ⌝ }
 {

@@ -9,12 +9,13 @@ use native.Mathlib.Nat.{zero-add}
 use native.Mathlib.Omega.{arith}
 use lib.ListN.{length, getD, set, length-set}
 use Rattle.model.specs.Below.{any, passing}
-use Rattle.model.specs.Graph.{Graph, onVertices, byTable, degree, vertexAt}
+use Rattle.model.specs.Graph.{Graph, degree, vertexAt}
 use Rattle.model.specs.Walk.{Position}
 use Rattle.model.specs.Listing.{adjacent, pivot, apart, takenList}
 use Rattle.theory.proofs.basics.Tests.{any-same, last-or-below, lt-or-ge, trichotomy}
 use Rattle.theory.proofs.basics.Parts.{part-push, part-before, part-after, part-below, kept-none}
 use Rattle.theory.specs.Parts.{part, Filled}
+use Rattle.graph.specs.Table.{graphOf}
 use Rattle.graph.proofs.Table.{table-size}
 use Rattle.ranks.proofs.Ranks.{entry-below}
 use Rattle.ranks.specs.Ranks.{HoldsRanks}
@@ -125,8 +126,8 @@ module _ {G : Graph} {p q : Position} {w : List ℕ} {s : State} (St : Stands G 
 
 -- ---- the stores, for the graph of a table
 
-module _ {n : ℕ} {t ranks : List ℕ} (R : HoldsRanks n t ranks) {w : List ℕ} {s : State} (one : StandsForOne (byTable n t) w s) (low : s .decided < n) where
-  size : byTable n t .size ≡ n
+module _ {n : ℕ} {t ranks : List ℕ} (R : HoldsRanks n t ranks) {w : List ℕ} {s : State} (one : StandsForOne (graphOf n t) w s) (low : s .decided < n) where
+  size : graphOf n t .size ≡ n
   size = table-size n t
 
   few-left : s .left ≤ n
@@ -136,14 +137,14 @@ module _ {n : ℕ} {t ranks : List ℕ} (R : HoldsRanks n t ranks) {w : List ℕ
   few-taken = let a = one .1 .taken-bound in omega arith
 
   -- the vertex that is first in part 1 is the pivot's
-  pivot-adjacent : {p : Position} → Stands (byTable n t) p w s → 0 < s .taken → {u v : ℕ} → u ≡ getD w n 0 → v ≡ getD ranks (s .decided) 0
-      → byTable n t .joined u v ≡ adjacent (byTable n t) (pivot (byTable n t) p) (s .decided)
+  pivot-adjacent : {p : Position} → Stands (graphOf n t) p w s → 0 < s .taken → {u v : ℕ} → u ≡ getD w n 0 → v ≡ getD ranks (s .decided) 0
+      → graphOf n t .joined u v ≡ adjacent (graphOf n t) (pivot (graphOf n t) p) (s .decided)
   unfolding adjacent
-  pivot-adjacent St h e f = ap₂ (byTable n t .joined) (e ∙ ap (λ (k : ℕ). getD w k 0) (sym size) ∙ pivot-entry St h) (f ∙ R .order (s .decided) low)
+  pivot-adjacent St h e f = ap₂ (graphOf n t .joined) (e ∙ ap (λ (k : ℕ). getD w k 0) (sym size) ∙ pivot-entry St h) (f ∙ R .order (s .decided) low)
 
   -- a left neighbour of the pivot goes onto part 2
-  pub neighbour-pushed : 0 < s .taken → {u v : ℕ} → u ≡ getD w n 0 → v ≡ getD ranks (s .decided) 0 → byTable n t .joined u v ≡ true
-      → Pushed (byTable n t) 2 w s (set w (2 * n + s .left) (s .decided)) (record { decided = s .decided + 1; taken = s .taken; left = s .left + 1; sum = s .sum; apart = s .apart })
+  pub neighbour-pushed : 0 < s .taken → {u v : ℕ} → u ≡ getD w n 0 → v ≡ getD ranks (s .decided) 0 → graphOf n t .joined u v ≡ true
+      → Pushed (graphOf n t) 2 w s (set w (2 * n + s .left) (s .decided)) (record { decided = s .decided + 1; taken = s .taken; left = s .left + 1; sum = s .sum; apart = s .apart })
   neighbour-pushed some e f j =
       let d = s .decided in
       let a = enough R one in
@@ -153,7 +154,7 @@ module _ {n : ℕ} {t ranks : List ℕ} (R : HoldsRanks n t ranks) {w : List ℕ
         stands = λ p q St D.
             push-left St (omega (arith, size)) D refl (length-set w (2 * n + s .left) d) (s .left + 1) (let x = St .left-bound in omega arith)
             (part-after w 0 (s .taken) (2 * n + s .left) d (omega arith))
-            (part-after w (byTable n t .size) (s .taken) (2 * n + s .left) d (omega (arith, size)))
+            (part-after w (graphOf n t .size) (s .taken) (2 * n + s .left) d (omega (arith, size)))
             (ap (λ (k : ℕ). part (set w (2 * n + s .left) d) (2 * k) (s .left + 1)) size
             ∙ part-push w (2 * n) (s .left) d (omega arith)
             ∙ ap (λ (k : ℕ). part w (2 * k) (s .left) ++ (d ∷ [])) (sym size)
@@ -162,8 +163,8 @@ module _ {n : ℕ} {t ranks : List ℕ} (R : HoldsRanks n t ranks) {w : List ℕ
       }
 
   -- another rank is left: no store
-  pub other-pushed : (0 < s .taken → (u : ℕ) × (v : ℕ) × (u ≡ getD w n 0) × (v ≡ getD ranks (s .decided) 0) × (byTable n t .joined u v ≡ false))
-      → Pushed (byTable n t) 2 w s w (record { decided = s .decided + 1; taken = s .taken; left = s .left; sum = s .sum; apart = s .apart })
+  pub other-pushed : (0 < s .taken → (u : ℕ) × (v : ℕ) × (u ≡ getD w n 0) × (v ≡ getD ranks (s .decided) 0) × (graphOf n t .joined u v ≡ false))
+      → Pushed (graphOf n t) 2 w s w (record { decided = s .decided + 1; taken = s .taken; left = s .left; sum = s .sum; apart = s .apart })
   other-pushed f =
       record {
         stands = λ p q St D. push-other St (omega (arith, size)) D refl (λ h. let j = f h in sym (pivot-adjacent St h (j .2) (j .3)) ∙ j .4);
@@ -171,28 +172,27 @@ module _ {n : ℕ} {t ranks : List ℕ} (R : HoldsRanks n t ranks) {w : List ℕ
       }
 
   -- part 2 as the rank is taken: the pivot stays, or the rank becomes the pivot
-  pub left-stays : 0 < s .taken → LeftOnceTaken (byTable n t) w s w (s .left)
+  pub left-stays : 0 < s .taken → LeftOnceTaken (graphOf n t) w s w (s .left)
   left-stays some =
       record {
         holds = λ p q St D. left-before St (omega (arith, size)) D refl some;
         few = one .1 .left-bound;
-        kept = kept-none (2 * byTable n t .size) (3 * byTable n t .size) w;
+        kept = kept-none (2 * graphOf n t .size) (3 * graphOf n t .size) w;
       }
 
-  pub left-found : s .taken ≡ 0 → {w₁ : List ℕ} {m i : ℕ} → i ≡ s .decided → m ≤ i → Filled (2 * n) (3 * n) (passing i (adjacent (byTable n t) (s .decided))) w w₁ m
-      → LeftOnceTaken (byTable n t) w s w₁ m
-  unfolding byTable onVertices
+  pub left-found : s .taken ≡ 0 → {w₁ : List ℕ} {m i : ℕ} → i ≡ s .decided → m ≤ i → Filled (2 * n) (3 * n) (passing i (adjacent (graphOf n t) (s .decided))) w w₁ m
+      → LeftOnceTaken (graphOf n t) w s w₁ m
   left-found none {w₁} {m} e few L =
       record {
-        holds = λ p q St D. L .listed ∙ ap (λ (k : ℕ). passing k (adjacent (byTable n t) (s .decided))) e ∙ left-new St low D refl none;
+        holds = λ p q St D. L .listed ∙ ap (λ (k : ℕ). passing k (adjacent (graphOf n t) (s .decided))) e ∙ left-new St low D refl none;
         few = omega arith;
         kept = L .kept;
       }
 
   -- the rank goes onto part 0 and its vertex onto part 1, after part 2 was written to w₁
   pub taken-pushed : {v e m : ℕ} {b a : Bool} {w₁ : List ℕ} → v ≡ getD ranks (s .decided) 0 → e ≡ getD ranks (n + v) 0
-      → b ≡ (s .apart || a) → a ≡ any (s .taken) (λ j. not (byTable n t .joined (getD w (n + j) 0) v)) → LeftOnceTaken (byTable n t) w s w₁ m
-      → Pushed (byTable n t) 1 w s (set (set w₁ (s .taken) (s .decided)) (n + s .taken) v)
+      → b ≡ (s .apart || a) → a ≡ any (s .taken) (λ j. not (graphOf n t .joined (getD w (n + j) 0) v)) → LeftOnceTaken (graphOf n t) w s w₁ m
+      → Pushed (graphOf n t) 1 w s (set (set w₁ (s .taken) (s .decided)) (n + s .taken) v)
       (record { decided = s .decided + 1; taken = s .taken + 1; left = m; sum = s .sum + e; apart = b })
   taken-pushed {v} {e} {m} {b} {a} {w₁} v-is e-is b-is a-is L =
       let d = s .decided in
@@ -207,8 +207,8 @@ module _ {n : ℕ} {t ranks : List ℕ} (R : HoldsRanks n t ranks) {w : List ℕ
       record {
         stands = λ p q St D.
             push-taken St (omega (arith, size)) D refl (simp length-set long) m e (L .few)
-            (e-is ∙ R .degrees v (omega arith) ∙ ap (degree (byTable n t)) at) b
-            (b-is ∙ ap (λ (y : Bool). s .apart || y) a-is ∙ ap₂ (λ (a x : ℕ). s .apart || any k (λ j. not (byTable n t .joined (getD w (a + j) 0) x))) (sym size) at)
+            (e-is ∙ R .degrees v (omega arith) ∙ ap (degree (graphOf n t)) at) b
+            (b-is ∙ ap (λ (y : Bool). s .apart || y) a-is ∙ ap₂ (λ (a x : ℕ). s .apart || any k (λ j. not (graphOf n t .joined (getD w (a + j) 0) x))) (sym size) at)
             (part-after w₂ 0 (k + 1) (n + k) v (omega arith)
             ∙ ap (λ (i : ℕ). part (set w₁ i d) 0 (k + 1)) (sym (zero-add k))
             ∙ part-push w₁ 0 k d (omega arith)
@@ -217,8 +217,8 @@ module _ {n : ℕ} {t ranks : List ℕ} (R : HoldsRanks n t ranks) {w : List ℕ
             ∙ part-push w₂ n k v (simp length-set (omega arith))
             ∙ ap₂ (λ (us : List ℕ) (x : ℕ). us ++ (x ∷ []))
             (part-before w₁ n k k d (omega arith) ∙ part-below _ _ w w₁ (L .kept) n k (omega (arith, size)) ∙ ap (λ (a : ℕ). part w a k) (sym size)) at)
-            (part-before w₂ (2 * byTable n t .size) m (n + k) v (omega (arith, size))
-            ∙ part-before w₁ (2 * byTable n t .size) m k d (omega (arith, size))
+            (part-before w₂ (2 * graphOf n t .size) m (n + k) v (omega (arith, size))
+            ∙ part-before w₁ (2 * graphOf n t .size) m k d (omega (arith, size))
             ∙ L .holds p q St D);
         next = refl;
       }

@@ -9,7 +9,7 @@ use native.Mathlib.Omega.{arith}
 use lib.ListN.{length, getD}
 use lib.Dec.{leb, eqb}
 use borrow.Author.Tests.{eq-eqb, ne-eqb}
-use Rattle.model.specs.Graph.{Graph, byTable, degree, vertexAt}
+use Rattle.model.specs.Graph.{Graph, degree, vertexAt}
 use Rattle.model.specs.Groups.{Factor}
 use Rattle.model.specs.Walk.{Position, has, finished}
 use Rattle.model.specs.Listing.{is, adjacent, pivot, apart, leftNeighbours, dead, takenList}
@@ -20,6 +20,7 @@ use Rattle.theory.proofs.basics.PassingParts.{passing-count}
 use Rattle.theory.proofs.graph.Factor.{at-least}
 use Rattle.theory.proofs.graph.Ranks.{vertex-at}
 use Rattle.theory.proofs.walk.Moves.{has-found, has-none, finished-is}
+use Rattle.graph.specs.Table.{graphOf}
 use Rattle.graph.proofs.Table.{table-size, table-degree}
 use Rattle.ranks.specs.Ranks.{HoldsRanks}
 use Rattle.state.specs.State.{takenRanks, leftOfPivot, leftRanks, Stands, StandsForOne}
@@ -136,7 +137,7 @@ module _ {G : Graph} {p : Position} {w : List ℕ} {s : State} (St : Stands G p 
 
 -- ---- the same for the graph of a table
 
-module _ {n : ℕ} {t ranks : List ℕ} (R : HoldsRanks n t ranks) {w : List ℕ} {s : State} (one : StandsForOne (byTable n t) w s) where
+module _ {n : ℕ} {t ranks : List ℕ} (R : HoldsRanks n t ranks) {w : List ℕ} {s : State} (one : StandsForOne (graphOf n t) w s) where
   -- the work slice has 8 × n entries or more
   pub enough : 8 * n ≤ length w
   enough = let a = one .1 .room in let b = table-size n t in omega arith
@@ -158,16 +159,16 @@ module _ {n : ℕ} {t ranks : List ℕ} (R : HoldsRanks n t ranks) {w : List ℕ
 
 module _ {n : ℕ} {t ranks : List ℕ} (R : HoldsRanks n t ranks) where
   -- a degree, and the sum of the degrees of the taken vertices, are small
-  degree-small : (v : ℕ) → degree (byTable n t) v ≤ 1024
+  degree-small : (v : ℕ) → degree (graphOf n t) v ≤ 1024
   degree-small v = let a = table-degree n t v in let b = R .fits .small in omega arith
 
   pub degree-read : (v : ℕ) {e : ℕ} → e ≡ getD ranks (n + v) 0 → v < n → e ≤ 1024
   degree-read v e h = let a = R .degrees v h in let b = degree-small v in omega arith
 
-  pub sum-small : {p : Position} {w : List ℕ} {s : State} → Stands (byTable n t) p w s → s .sum ≤ 1048576
+  pub sum-small : {p : Position} {w : List ℕ} {s : State} → Stands (graphOf n t) p w s → s .sum ≤ 1048576
   sum-small {p} {w} {s} St =
-      let a = degrees-bound (byTable n t) 1024 degree-small (takenList (byTable n t) p) in
-      let b = taken-length (byTable n t) p ∙ taken-count (byTable n t) p w s St in
+      let a = degrees-bound (graphOf n t) 1024 degree-small (takenList (graphOf n t) p) in
+      let b = taken-length (graphOf n t) p ∙ taken-count (graphOf n t) p w s St in
       let c = St .sum in
       let d = St .taken-bound in
       let e = St .bound in

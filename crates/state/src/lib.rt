@@ -5,8 +5,8 @@ ghost use mathlib.Core.Bool.{false, _||_, not};
 ghost use Prim.Native.Nat.{_+_, _*_, _≤_, _<_};
 ghost use lib.ListN.{length, getD};
 ghost use Rattle.model.specs.Below.{any};
-ghost use Rattle.model.specs.Graph.{byTable};
 ghost use Rattle.model.specs.Calls.{over, gap};
+ghost use Rattle.graph.specs.Table.{graphOf};
 ghost use Rattle.ranks.specs.Ranks.{HoldsRanks};
 ghost use Rattle.state.specs.State.{Stands, StandsForOne, SaysFinished, SaysDead};
 ghost use Rattle.state.specs.NextRank.{Pushed, Misses, LeftOnceTaken};
@@ -65,7 +65,7 @@ pub fn is_dead(s: State, c: usize) -> bool
 // Whether some of the first k vertices of part 1 is not joined to v. Reads them from the last, up to one that is not.
 fn misses_one(table: &[u8], n: usize, work: &[u16], k: usize, v: usize) -> bool
     requires { ⌜ Misses n (now table) (now work) k v ⌝ }
-    ensures { λ r. ⌜ r ≡ any k (λ j. not (byTable n (now (table .entry)) .joined (getD (now (work .entry)) (n + j) 0) v)) ⌝ }
+    ensures { λ r. ⌜ r ≡ any k (λ j. not (graphOf n (now (table .entry)) .joined (getD (now (work .entry)) (n + j) 0) v)) ⌝ }
 {
     let mut j = k;
     while 0 < j {
@@ -83,8 +83,8 @@ fn misses_one(table: &[u8], n: usize, work: &[u16], k: usize, v: usize) -> bool
 // ranks", after documents 000, section 2, and 002, section 2.2: the pivot is the member of lowest rank, one of least degree. So it stays where something is taken. Else it
 // is d, and the ranks below d, which are all left, are looked through once.
 fn left_once_taken(s: State, table: &[u8], ranks: &[u16], n: usize, work: &mut [u16]) -> usize
-    requires { ⌜ HoldsRanks n (now table) (now ranks) × StandsForOne (byTable n (now table)) (now work) s × (s .decided < n) ⌝ }
-    ensures { λ m. ⌜ LeftOnceTaken (byTable n (now (table .entry))) (now (work .entry)) s (now (work .exit)) m ⌝ }
+    requires { ⌜ HoldsRanks n (now table) (now ranks) × StandsForOne (graphOf n (now table)) (now work) s × (s .decided < n) ⌝ }
+    ensures { λ m. ⌜ LeftOnceTaken (graphOf n (now (table .entry))) (now (work .entry)) s (now (work .exit)) m ⌝ }
 {
     let d = s.decided;
     let k = s.taken;
@@ -107,8 +107,8 @@ fn left_once_taken(s: State, table: &[u8], ranks: &[u16], n: usize, work: &mut [
 
 // The state with the next rank taken: its vertex is tested against the taken ones. Does not touch the position.
 pub fn push_taken(s: State, table: &[u8], ranks: &[u16], n: usize, work: &mut [u16]) -> State
-    requires { ⌜ HoldsRanks n (now table) (now ranks) × StandsForOne (byTable n (now table)) (now work) s × (s .decided < n) ⌝ }
-    ensures { λ r. ⌜ Pushed (byTable n (now (table .entry))) 1 (now (work .entry)) s (now (work .exit)) r ⌝ }
+    requires { ⌜ HoldsRanks n (now table) (now ranks) × StandsForOne (graphOf n (now table)) (now work) s × (s .decided < n) ⌝ }
+    ensures { λ r. ⌜ Pushed (graphOf n (now (table .entry))) 1 (now (work .entry)) s (now (work .exit)) r ⌝ }
 {
     let d = s.decided;
     let k = s.taken;
@@ -129,8 +129,8 @@ pub fn push_taken(s: State, table: &[u8], ranks: &[u16], n: usize, work: &mut [u
 
 // The state with the next rank left: a neighbour of the pivot goes onto part 2. Does not touch the position.
 pub fn push_left(s: State, table: &[u8], ranks: &[u16], n: usize, work: &mut [u16]) -> State
-    requires { ⌜ HoldsRanks n (now table) (now ranks) × StandsForOne (byTable n (now table)) (now work) s × (s .decided < n) ⌝ }
-    ensures { λ r. ⌜ Pushed (byTable n (now (table .entry))) 2 (now (work .entry)) s (now (work .exit)) r ⌝ }
+    requires { ⌜ HoldsRanks n (now table) (now ranks) × StandsForOne (graphOf n (now table)) (now work) s × (s .decided < n) ⌝ }
+    ensures { λ r. ⌜ Pushed (graphOf n (now (table .entry))) 2 (now (work .entry)) s (now (work .exit)) r ⌝ }
 {
     let d = s.decided;
     let k = s.taken;
@@ -167,8 +167,8 @@ pub fn push_left(s: State, table: &[u8], ranks: &[u16], n: usize, work: &mut [u1
 
 // The state with the next rank decided as the mark says. Document 01, "The walk": 1 is taken and 2 is left.
 fn push(s: State, mark: u8, table: &[u8], ranks: &[u16], n: usize, work: &mut [u16]) -> State
-    requires { ⌜ HoldsRanks n (now table) (now ranks) × StandsForOne (byTable n (now table)) (now work) s × (s .decided < n) × (0 < mark) × (mark ≤ 2) ⌝ }
-    ensures { λ r. ⌜ Pushed (byTable n (now (table .entry))) mark (now (work .entry)) s (now (work .exit)) r ⌝ }
+    requires { ⌜ HoldsRanks n (now table) (now ranks) × StandsForOne (graphOf n (now table)) (now work) s × (s .decided < n) × (0 < mark) × (mark ≤ 2) ⌝ }
+    ensures { λ r. ⌜ Pushed (graphOf n (now (table .entry))) mark (now (work .entry)) s (now (work .exit)) r ⌝ }
 {
     if mark == 1 {
         return push_taken(s, table, ranks, n, work);
@@ -179,7 +179,7 @@ fn push(s: State, mark: u8, table: &[u8], ranks: &[u16], n: usize, work: &mut [u
 // The state of a position that passes refusals 21 and 22. Goes once through its decided ranks.
 pub fn rebuild(table: &[u8], ranks: &[u16], n: usize, position: &[u8], work: &mut [u16]) -> State
     requires { ⌜ HoldsRanks n (now table) (now ranks) × (length (now position) ≡ n) × (8 * n ≤ length (now work)) × (over 2 (now position) ≡ false) × (gap (now position) ≡ false) ⌝ }
-    ensures { λ r. ⌜ Stands (byTable n (now (table .entry))) (now (position .entry)) (now (work .exit)) r ⌝ }
+    ensures { λ r. ⌜ Stands (graphOf n (now (table .entry))) (now (position .entry)) (now (work .exit)) r ⌝ }
 {
     let mut s = State {
         decided: 0,

@@ -11,7 +11,7 @@ use lib.Seq.{length-take-le, getD-take, getD-append-add, getD-at, getD-set-same,
 use lib.Dec.{eqb}
 use borrow.Author.Tests.{eqb-true, eq-eqb, ne-eqb}
 use Rattle.model.specs.Below.{least, passing}
-use Rattle.model.specs.Graph.{Graph, byTable, degree, vertexAt}
+use Rattle.model.specs.Graph.{Graph, degree, vertexAt}
 use Rattle.model.specs.Walk.{Position, has, fresh, retreat}
 use Rattle.model.specs.Listing.{is, pivot, apart, takenList}
 use Rattle.model.specs.Calls.{reopened}
@@ -22,6 +22,7 @@ use Rattle.theory.proofs.calls.DeadPosition.{below-pivot}
 use Rattle.theory.proofs.walk.Moves.{retreat-is}
 use Rattle.theory.proofs.walk.Remaining.{open-zero, fresh-open, retreat-length}
 use Rattle.theory.specs.Parts.{part}
+use Rattle.graph.specs.Table.{graphOf}
 use Rattle.graph.proofs.Table.{table-size}
 use Rattle.ranks.specs.Ranks.{HoldsRanks}
 use Rattle.state.specs.State.{takenRanks, leftOfPivot, leftRanks, degreesOf, Stands}
@@ -262,21 +263,21 @@ module _ {G : Graph} {p : Position} {w : List ℕ} {s : State} (St : Stands G p 
 
 -- ---- its vertex v and the degree e of it, as they are read
 
-module _ {n : ℕ} {t ranks : List ℕ} (R : HoldsRanks n t ranks) {p : Position} {w : List ℕ} {s : State} (St : Stands (byTable n t) p w s) (some : 0 < s .taken)
+module _ {n : ℕ} {t ranks : List ℕ} (R : HoldsRanks n t ranks) {p : Position} {w : List ℕ} {s : State} (St : Stands (graphOf n t) p w s) (some : 0 < s .taken)
     {r v : ℕ} (r-is : r ≡ getD w (s .taken - 1) 0) (v-is : v ≡ getD w (n + (s .taken - 1)) 0) where
   pub last-vertex : v < n
   last-vertex = let l = taken-low R (p, St) (s .taken - 1) (omega arith) in omega arith
 
   module _ {e : ℕ} (e-is : e ≡ getD ranks (n + v) 0) where
-    pub last-sum : s .sum ≡ degreesOf (byTable n t) (takenList (byTable n t) (opened r p)) + e
+    pub last-sum : s .sum ≡ degreesOf (graphOf n t) (takenList (graphOf n t) (opened r p)) + e
     last-sum =
         let a = e-is ∙ R .degrees v last-vertex in
         let b = v-is ∙ ap (λ (k : ℕ). getD w (k + (s .taken - 1)) 0) (sym (table-size n t)) ∙ top-vertex St some r-is in
-        let c = a ∙ ap (degree (byTable n t)) b in
+        let c = a ∙ ap (degree (graphOf n t)) b in
         let d = popped-sum St some r-is in
         omega arith
 
     -- the state with it open
-    pub last-opened : apart (byTable n t) (reopened p) ≡ false → {m : ℕ} → Trimmed n w (s .taken - 1) (s .left) r m
-        → Stands (byTable n t) (opened r p) w (record { decided = r; taken = s .taken - 1; left = m; sum = s .sum - e; apart = false })
+    pub last-opened : apart (graphOf n t) (reopened p) ≡ false → {m : ℕ} → Trimmed n w (s .taken - 1) (s .left) r m
+        → Stands (graphOf n t) (opened r p) w (record { decided = r; taken = s .taken - 1; left = m; sum = s .sum - e; apart = false })
     last-opened calm T = opened-stands St some r-is calm (rw (table-size n t) T) (let a = last-sum in omega arith)

@@ -7,7 +7,7 @@ use mathlib.Core.List.{List}
 use mathlib.Core.Logic.{_≢_}
 use native.Mathlib.Omega.{arith}
 use borrow.Author.Tests.{eq-eqb}
-use Rattle.model.specs.Graph.{Graph, byTable}
+use Rattle.model.specs.Graph.{Graph}
 use Rattle.model.specs.Groups.{Factor}
 use Rattle.model.specs.Walk.{Position, has, finished, advance, retreat, step}
 use Rattle.model.specs.Listing.{apart, dead}
@@ -16,6 +16,7 @@ use Rattle.theory.proofs.walk.Walk.{step-down, step-up}
 use Rattle.theory.proofs.calls.PageAccepted.{refuse-pass}
 use Rattle.theory.proofs.calls.Pages.{table-lawful}
 use Rattle.theory.proofs.walk.Moves.{step-accepted}
+use Rattle.graph.specs.Table.{graphOf}
 use Rattle.graph.proofs.Table.{table-size}
 use Rattle.state.specs.State.{Stands}
 use Rattle.walk.specs.Walk.{rulesAt, Walking, Moved, Stepped}
@@ -24,7 +25,7 @@ use Rattle.state.proofs.StandsFor.{some-open, no-open, finished-decided, untake
 
 module _ {n : ℕ} {c : Factor} {t ranks : List ℕ} {p : Position} {w : List ℕ} {s : State} (W : Walking n c t ranks p w s) where
   abbrev G : Graph
-  G = byTable n t
+  G = graphOf n t
 
   -- the taken ranks but the last decided one are pairwise adjacent
   pub passes-calm : apart G (reopened p) ≡ false

@@ -4,11 +4,12 @@ use Prim.Native.Nat.{ℕ, _+_, _-_, _*_, _≤_, _<_}
 use mathlib.Core.Path.{_≡_}
 use mathlib.Core.List.{List}
 use lib.ListN.{getD}
-use Rattle.model.specs.Graph.{Graph, byTable}
+use Rattle.model.specs.Graph.{Graph}
 use Rattle.model.specs.Groups.{Factor, settings}
 use Rattle.model.specs.Walk.{Position, Rules, step}
 use Rattle.model.specs.Listing.{rules}
 use Rattle.model.specs.Calls.{refuseTable, refusePosition}
+use Rattle.graph.specs.Table.{graphOf}
 use Rattle.ranks.specs.Ranks.{HoldsRanks}
 use Rattle.state.specs.State.{Stands}
 use Rattle.state.specs.declared.State.{State}
@@ -39,8 +40,8 @@ pub record Moved (G : Graph) (q p₂ : Position) (w₂ : List ℕ) (s₂ : State
 pub record Walking (n : ℕ) (c : Factor) (t ranks : List ℕ) (p : Position) (w : List ℕ) (s : State) : Type 0 where
   pub accepted : refuseTable n t 0 ≡ 0
   pub ranked : HoldsRanks n t ranks
-  pub stands : Stands (byTable n t) p w s
-  pub passes : Passes (byTable n t) c p
+  pub stands : Stands (graphOf n t) p w s
+  pub passes : Passes (graphOf n t) c p
 
 -- the same after a step, with a position that passes refusals 21 to 23 again
 pub record Stepped (G : Graph) (c : Factor) (p p₂ : Position) (w₂ : List ℕ) (s₂ : State) : Type 0 where

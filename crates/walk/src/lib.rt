@@ -4,10 +4,10 @@ ghost use mathlib.Core.Path.{_≡_};
 ghost use mathlib.Core.Bool.{false};
 ghost use Prim.Native.Nat.{_+_, _*_, _≤_, _<_};
 ghost use lib.ListN.{length};
-ghost use Rattle.model.specs.Graph.{byTable};
 ghost use Rattle.model.specs.Walk.{finished, advance, retreat};
 ghost use Rattle.model.specs.Listing.{apart};
 ghost use Rattle.model.specs.Calls.{reopened};
+ghost use Rattle.graph.specs.Table.{graphOf};
 ghost use Rattle.ranks.specs.Ranks.{HoldsRanks};
 ghost use Rattle.state.specs.State.{Stands};
 ghost use Rattle.state.specs.NextRank.{RanksOpened};
@@ -27,8 +27,8 @@ pub fn take(
     position: &mut [u8],
     work: &mut [u16],
 ) -> State
-    requires { ⌜ HoldsRanks n (now table) (now ranks) × Stands (byTable n (now table)) (now position) (now work) s × (s .decided < n) ⌝ }
-    ensures { λ r. ⌜ Moved (byTable n (now (table .entry))) (advance (now (position .entry))) (now (position .exit)) (now (work .exit)) r ⌝ }
+    requires { ⌜ HoldsRanks n (now table) (now ranks) × Stands (graphOf n (now table)) (now position) (now work) s × (s .decided < n) ⌝ }
+    ensures { λ r. ⌜ Moved (graphOf n (now (table .entry))) (advance (now (position .entry))) (now (position .exit)) (now (work .exit)) r ⌝ }
 {
     let d = s.decided;
     position[d] = 1;
@@ -77,8 +77,8 @@ pub fn back(
     position: &mut [u8],
     work: &mut [u16],
 ) -> State
-    requires { ⌜ HoldsRanks n (now table) (now ranks) × Stands (byTable n (now table)) (now position) (now work) s × (0 < s .taken) × (apart (byTable n (now table)) (reopened (now position)) ≡ false) ⌝ }
-    ensures { λ r. ⌜ Moved (byTable n (now (table .entry))) (retreat (now (position .entry))) (now (position .exit)) (now (work .exit)) r ⌝ }
+    requires { ⌜ HoldsRanks n (now table) (now ranks) × Stands (graphOf n (now table)) (now position) (now work) s × (0 < s .taken) × (apart (graphOf n (now table)) (reopened (now position)) ≡ false) ⌝ }
+    ensures { λ r. ⌜ Moved (graphOf n (now (table .entry))) (retreat (now (position .entry))) (now (position .exit)) (now (work .exit)) r ⌝ }
 {
     let d = s.decided;
     let k = s.taken - 1;
@@ -113,7 +113,7 @@ pub fn step(
 ) -> State
     requires { ⌜ Walking n c (now table) (now ranks) (now position) (now work) s ⌝ }
     requires { ⌜ finished (now position) ≡ false ⌝ }
-    ensures { λ r. ⌜ Stepped (byTable n (now (table .entry))) c (now (position .entry)) (now (position .exit)) (now (work .exit)) r ⌝ }
+    ensures { λ r. ⌜ Stepped (graphOf n (now (table .entry))) c (now (position .entry)) (now (position .exit)) (now (work .exit)) r ⌝ }
 {
     let d = s.decided;
     if is_dead(s, c) {

@@ -6,16 +6,16 @@ use mathlib.Core.Bool.{true}
 use native.Mathlib.Omega.{arith}
 use lib.ListN.{take}
 use borrow.Author.Tests.{not-true, not-false}
-use Rattle.model.specs.Graph.{byTable}
 use Rattle.theory.specs.Search.{joinedAll}
 use Rattle.theory.specs.Parts.{part}
+use Rattle.graph.specs.Table.{graphOf}
 use Rattle.larger.proofs.Joined.{all-none, all-more, all-apart, all-end}
 use borrow.Author.Needs.{needs}
 use Rattle.larger.proofs.joined_to_all.Statement.{statement}
 use Rattle.larger.proofs.joined_to_all.Tie as tie
 
 abbrev Inv-loop : tie.InvT-loop
-Inv-loop table n work v from to i₀ i = (from ≤ i) × (i ≤ to) × (joinedAll (byTable n table) v (take (i - from) (part work from (to - from))) ≡ true)
+Inv-loop table n work v from to i₀ i = (from ≤ i) × (i ≤ to) × (joinedAll (graphOf n table) v (take (i - from) (part work from (to - from))) ≡ true)
 
 abbrev μ-loop : tie.MeasureT-loop
 μ-loop table n work v from to i₀ i = to - i

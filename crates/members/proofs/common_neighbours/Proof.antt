@@ -5,16 +5,16 @@ use mathlib.Core.Path.{sym, ap, _∙_}
 use mathlib.Core.Logic.{⊎-elim}
 use native.Mathlib.Omega.{arith}
 use Rattle.model.specs.Below.{passing}
-use Rattle.model.specs.Graph.{byTable}
 use Rattle.theory.specs.Search.{joinedAll}
 use Rattle.theory.specs.Parts.{part, Filled}
 use Rattle.theory.proofs.basics.Parts.{same-members, filled-same, filled-none, filled-push, filled-pass}
 use Rattle.theory.proofs.basics.Passing.{passing-none, passing-hit, passing-miss, passing-end}
+use Rattle.graph.specs.Table.{graphOf}
 use Rattle.members.proofs.common_neighbours.Statement.{statement}
 use Rattle.members.proofs.common_neighbours.Tie as tie
 
 abbrev Inv-loop : tie.InvT-loop
-Inv-loop table n work₀ k end m₀ v₀ work m v = (v ≤ n) × (m ≤ v) × Filled (3 * n) (3 * n + n) (passing v (λ u. joinedAll (byTable n table) u (part work₀ n k))) work₀ work m
+Inv-loop table n work₀ k end m₀ v₀ work m v = (v ≤ n) × (m ≤ v) × Filled (3 * n) (3 * n + n) (passing v (λ u. joinedAll (graphOf n table) u (part work₀ n k))) work₀ work m
 
 abbrev μ-loop : tie.MeasureT-loop
 μ-loop table n work₀ k end m₀ v₀ work m v = n - v
@@ -33,7 +33,7 @@ loop-again c =
     let b = c .before .before .before .before .before .before .before in
     let l = c .before .before .before .before .loop in
     let same = same-members _ _ _ _ (l .inv .2 .kept) (b .pre .1 .few) in
-    let e = ap (joinedAll (byTable (b .args .n) (b .args .table .now)) (l .v)) (sym same) ∙ sym (c .before .joined-to-all .ensures) in
+    let e = ap (joinedAll (graphOf (b .args .n) (b .args .table .now)) (l .v)) (sym same) ∙ sym (c .before .joined-to-all .ensures) in
     ⊎-elim
     (λ w. (omega arith, omega arith, filled-same (w .1) (w .2) (filled-push _ _ _ (l .inv .2) _ _ (passing-hit _ _ (e ∙ w .0 .taken)) (omega arith) (omega arith))))
     (λ w. (omega arith, omega arith, filled-same (w .1) (w .2) (filled-pass _ _ _ (l .inv .2) _ (passing-miss _ _ (e ∙ w .0 .left)))))

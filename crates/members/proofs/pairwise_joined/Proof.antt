@@ -6,14 +6,14 @@ use mathlib.Core.Bool.{true}
 use native.Mathlib.Omega.{arith}
 use borrow.Author.Tests.{not-true, not-false}
 use Rattle.model.specs.Below.{all}
-use Rattle.model.specs.Graph.{byTable}
 use Rattle.theory.specs.Parts.{part}
+use Rattle.graph.specs.Table.{graphOf}
 use Rattle.members.proofs.Listed.{joins-before, pairs-none, pairs-more, pairs-apart, pairs-all}
 use Rattle.members.proofs.pairwise_joined.Statement.{statement}
 use Rattle.members.proofs.pairwise_joined.Tie as tie
 
 abbrev Inv-loop : tie.InvT-loop
-Inv-loop table n work k i₀ i = (i ≤ k) × (all i (joins-before (byTable n table) (part work n k)) ≡ true)
+Inv-loop table n work k i₀ i = (i ≤ k) × (all i (joins-before (graphOf n table) (part work n k)) ≡ true)
 
 abbrev μ-loop : tie.MeasureT-loop
 μ-loop table n work k i₀ i = k - i

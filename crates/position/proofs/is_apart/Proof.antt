@@ -6,16 +6,16 @@ use mathlib.Core.Bool.{false}
 use native.Mathlib.Omega.{arith}
 use lib.ListN.{length}
 use borrow.Author.Count.{below-more}
-use Rattle.model.specs.Graph.{byTable}
 use Rattle.graph.proofs.Table.{table-size}
 use Rattle.position.specs.Position.{apartAt}
 use Rattle.position.proofs.Refusals.{apart-found, apart-none}
 use borrow.Author.Needs.{needs}
+use Rattle.graph.specs.Table.{graphOf}
 use Rattle.position.proofs.is_apart.Statement.{statement}
 use Rattle.position.proofs.is_apart.Tie as tie
 
 abbrev Inv-loop : tie.InvT-loop
-Inv-loop table ranks n position s₀ s = (s ≤ length position) × ((k : ℕ) → k < s → apartAt (byTable n table) position k ≡ false)
+Inv-loop table ranks n position s₀ s = (s ≤ length position) × ((k : ℕ) → k < s → apartAt (graphOf n table) position k ≡ false)
 
 abbrev μ-loop : tie.MeasureT-loop
 μ-loop table ranks n position s₀ s = length position - s

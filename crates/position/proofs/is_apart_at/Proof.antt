@@ -6,15 +6,15 @@ use mathlib.Core.Bool.{false}
 use native.Mathlib.Omega.{arith}
 use borrow.Author.Tests.{eq-eqb, ne-eqb}
 use borrow.Author.Count.{below-more}
-use Rattle.model.specs.Graph.{byTable}
 use Rattle.theory.proofs.basics.Tests.{any-found, any-none}
+use Rattle.graph.specs.Table.{graphOf}
 use Rattle.position.specs.Position.{stranger, apartAt}
 use borrow.Author.Needs.{needs}
 use Rattle.position.proofs.is_apart_at.Statement.{statement}
 use Rattle.position.proofs.is_apart_at.Tie as tie
 
 abbrev Inv-loop : tie.InvT-loop
-Inv-loop table ranks n position s i₀ i = (i ≤ s) × ((k : ℕ) → k < i → stranger (byTable n table) position s k ≡ false)
+Inv-loop table ranks n position s i₀ i = (i ≤ s) × ((k : ℕ) → k < i → stranger (graphOf n table) position s k ≡ false)
 
 abbrev μ-loop : tie.MeasureT-loop
 μ-loop table ranks n position s i₀ i = s - i

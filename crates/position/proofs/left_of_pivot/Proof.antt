@@ -7,9 +7,9 @@ use mathlib.Core.Logic.{⊎-elim}
 use native.Mathlib.Omega.{arith}
 use lib.ListN.{length}
 use Rattle.model.specs.Below.{count}
-use Rattle.model.specs.Graph.{byTable}
 use Rattle.theory.proofs.basics.Tests.{count-none, count-hit, count-miss}
 use Rattle.theory.proofs.walk.Scans.{left-within}
+use Rattle.graph.specs.Table.{graphOf}
 use Rattle.graph.proofs.Table.{table-size}
 use Rattle.position.specs.Position.{leftNeighbour}
 use borrow.Author.Needs.{needs}
@@ -18,7 +18,7 @@ use Rattle.position.proofs.left_of_pivot.Tie as tie
 
 abbrev Inv-loop : tie.InvT-loop
 Inv-loop table ranks n position pivot sum₀ i₀ sum i =
-    (i ≤ length position) × (sum ≡ count i (leftNeighbour (byTable n table) position pivot)) × (sum ≤ i)
+    (i ≤ length position) × (sum ≡ count i (leftNeighbour (graphOf n table) position pivot)) × (sum ≤ i)
 
 abbrev μ-loop : tie.MeasureT-loop
 μ-loop table ranks n position pivot sum₀ i₀ sum i = length position - i
@@ -41,7 +41,7 @@ loop-less c = search needs
 loop-again : tie.Need-loop-again Inv-loop μ-loop
 loop-again c =
     let b = c .before .before .before .before .before .before .before in
-    let p : ℕ → Bool = leftNeighbour (byTable (b .args .n) (b .args .table .now)) (b .args .position .now) (b .args .pivot) in
+    let p : ℕ → Bool = leftNeighbour (graphOf (b .args .n) (b .args .table .now)) (b .args .position .now) (b .args .pivot) in
     let l = c .before .before .before .loop in
     let e = sym (c .before .is-left-neighbour .ensures) in
     ⊎-elim
@@ -53,7 +53,7 @@ returns : tie.Need-returns Inv-loop μ-loop
 returns c =
     let b = c .before .before .before .before .before in
     c .before .loop .inv .1
-    ∙ ap (λ (k : ℕ). count k (leftNeighbour (byTable (b .args .n) (b .args .table .now)) (b .args .position .now) (b .args .pivot))) (omega arith)
+    ∙ ap (λ (k : ℕ). count k (leftNeighbour (graphOf (b .args .n) (b .args .table .now)) (b .args .position .now) (b .args .pivot))) (omega arith)
     ∙ sym (left-within _ (b .args .position .now) (omega (arith, b .pre .1, table-size (b .args .n) (b .args .table .now))) (b .args .pivot))
 
 pub left-of-pivot-spec : {M : Type 1} → statement M

@@ -5,11 +5,11 @@ use mathlib.Core.Path.{sym, _∙_}
 use mathlib.Core.Logic.{⊎-elim}
 use native.Mathlib.Omega.{arith}
 use Rattle.model.specs.Below.{passing}
-use Rattle.model.specs.Graph.{byTable}
 use Rattle.model.specs.Listing.{adjacent}
 use Rattle.theory.specs.Parts.{Filled}
 use Rattle.theory.proofs.basics.Parts.{filled-none, filled-push, filled-pass, filled-same}
 use Rattle.theory.proofs.basics.Passing.{passing-none, passing-hit, passing-miss}
+use Rattle.graph.specs.Table.{graphOf}
 use Rattle.ranks.proofs.Ranks.{entry-below, entries-adjacent}
 use Rattle.state.proofs.StandsFor.{enough}
 use Rattle.state.proofs.RankPushed.{left-stays, left-found}
@@ -19,7 +19,7 @@ use Rattle.state.proofs.left_once_taken.Tie as tie
 
 abbrev Inv-loop : tie.InvT-loop
 Inv-loop table ranks n work₀ d k v m₀ i₀ work m i =
-    (i ≤ d) × (m ≤ i) × Filled (2 * n) (3 * n) (passing i (adjacent (byTable n table) d)) work₀ work m
+    (i ≤ d) × (m ≤ i) × Filled (2 * n) (3 * n) (passing i (adjacent (graphOf n table) d)) work₀ work m
 
 abbrev μ-loop : tie.MeasureT-loop
 μ-loop table ranks n work₀ d k v m₀ i₀ work m i = d - i
@@ -51,7 +51,7 @@ loop-again c =
     let o = c .before .before .before .before in
     let i = o .loop .i in
     let inv = o .loop .inv in
-    let p = adjacent (byTable n (b .args .table .now)) (b .args .s .decided) in
+    let p = adjacent (graphOf n (b .args .table .now)) (b .args .s .decided) in
     let a = sym (entries-adjacent (q .0) (q .2) (omega arith) (o .before .entry-at .ensures) (c .before .before .entry-at2 .ensures)) ∙ sym (c .before .joined .ensures) in
     ⊎-elim
     (λ y. (omega arith, omega arith, filled-same (y .1) (y .2) (filled-push (2 * n) (3 * n) (b .args .work .now) (inv .2) i _ (passing-hit p i (a ∙ y .0 .taken)) (omega arith) (omega (arith, enough (q .0) (q .1))))))

@@ -6,19 +6,19 @@ use mathlib.Core.Bool.{Bool, not, false}
 use mathlib.Core.List.{List}
 use native.Mathlib.Omega.{arith}
 use lib.ListN.{getD}
-use Rattle.model.specs.Graph.{byTable}
 use Rattle.theory.proofs.basics.Tests.{from-more, any-found, any-none}
+use Rattle.graph.specs.Table.{graphOf}
 use borrow.Author.Needs.{needs}
 use Rattle.state.proofs.misses_one.Statement.{statement}
 use Rattle.state.proofs.misses_one.Tie as tie
 
 -- the test of the vertex x that was read as u
-read : (n : ℕ) (t : List ℕ) (v : ℕ) {u x : ℕ} {a b : Bool} → u ≡ x → a ≡ byTable n t .joined u v → not a ≡ b → not (byTable n t .joined x v) ≡ b
-read n t v e f g = ap (λ (u : ℕ). not (byTable n t .joined u v)) (sym e) ∙ ap not (sym f) ∙ g
+read : (n : ℕ) (t : List ℕ) (v : ℕ) {u x : ℕ} {a b : Bool} → u ≡ x → a ≡ graphOf n t .joined u v → not a ≡ b → not (graphOf n t .joined x v) ≡ b
+read n t v e f g = ap (λ (u : ℕ). not (graphOf n t .joined u v)) (sym e) ∙ ap not (sym f) ∙ g
 
 abbrev Inv-loop : tie.InvT-loop
 Inv-loop table n work k v j₀ j =
-    (j ≤ k) × ((i : ℕ) → j ≤ i → i < k → not (byTable n table .joined (getD work (n + i) 0) v) ≡ false)
+    (j ≤ k) × ((i : ℕ) → j ≤ i → i < k → not (graphOf n table .joined (getD work (n + i) 0) v) ≡ false)
 
 abbrev μ-loop : tie.MeasureT-loop
 μ-loop table n work k v j₀ j = j

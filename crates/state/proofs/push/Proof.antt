@@ -3,9 +3,9 @@
 use Prim.Native.Nat.{ℕ}
 use mathlib.Core.Path.{_≡_, subst⁻¹}
 use native.Mathlib.Omega.{arith}
-use Rattle.model.specs.Graph.{byTable}
 use Rattle.state.specs.NextRank.{Pushed}
 use borrow.Author.Needs.{needs}
+use Rattle.graph.specs.Table.{graphOf}
 use Rattle.state.proofs.push.Statement.{statement}
 use Rattle.state.proofs.push.Tie as tie
 
@@ -19,7 +19,7 @@ returns : tie.Need-returns
 returns c =
     let b = c .before .before .before .before .before .before .before .before in
     let e : b .args .mark ≡ 1 = omega arith in
-    subst⁻¹ (λ (x : ℕ). Pushed (byTable (b .args .n) (b .args .table .now)) x (b .args .work .now) (b .args .s) (c .before .before .push-taken .last .1 .1 .1 .1 .0) (c .before .before .push-taken .result))
+    subst⁻¹ (λ (x : ℕ). Pushed (graphOf (b .args .n) (b .args .table .now)) x (b .args .work .now) (b .args .s) (c .before .before .push-taken .last .1 .1 .1 .1 .0) (c .before .before .push-taken .result))
     e (c .before .before .push-taken .ensures)
 
 push-left-requires : tie.Need-push-left-requires
@@ -32,7 +32,7 @@ returns-2 : tie.Need-returns-2
 returns-2 c =
     let b = c .before .before .before .before .before .before .before .before in
     let e : b .args .mark ≡ 2 = omega arith in
-    subst⁻¹ (λ (x : ℕ). Pushed (byTable (b .args .n) (b .args .table .now)) x (b .args .work .now) (b .args .s) (c .before .before .push-left .last .1 .1 .1 .1 .0) (c .before .before .push-left .result))
+    subst⁻¹ (λ (x : ℕ). Pushed (graphOf (b .args .n) (b .args .table .now)) x (b .args .work .now) (b .args .s) (c .before .before .push-left .last .1 .1 .1 .1 .0) (c .before .before .push-left .result))
     e (c .before .before .push-left .ensures)
 
 pub push-spec : {M : Type 1} → statement M

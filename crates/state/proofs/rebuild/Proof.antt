@@ -5,16 +5,16 @@ use mathlib.Core.Path.{_≡_, refl, _∙_, subst⁻¹}
 use mathlib.Core.Logic.{_≢_}
 use native.Mathlib.Omega.{arith}
 use lib.ListN.{length, getD, List·getD-eq-default}
-use Rattle.model.specs.Graph.{byTable}
 use Rattle.graph.proofs.Table.{table-size}
 use Rattle.state.specs.State.{Stands}
 use Rattle.state.proofs.Opened.{opened, fresh-stands, opened-decides, stands-whole, gapless, bytes-most}
 use borrow.Author.Needs.{needs}
+use Rattle.graph.specs.Table.{graphOf}
 use Rattle.state.proofs.rebuild.Statement.{statement}
 use Rattle.state.proofs.rebuild.Tie as tie
 
 abbrev Inv-loop : tie.InvT-loop
-Inv-loop table ranks n position work₀ s₀ work s = Stands (byTable n table) (opened (s .decided) position) work s × (length work ≡ length work₀)
+Inv-loop table ranks n position work₀ s₀ work s = Stands (graphOf n table) (opened (s .decided) position) work s × (length work ≡ length work₀)
 
 abbrev μ-loop : tie.MeasureT-loop
 μ-loop table ranks n position work₀ s₀ work s = n - s .decided
@@ -58,7 +58,7 @@ loop-again c =
     let d = l .s .decided in
     let h : d < length p = omega (arith, b .pre .1) in
     let u = c .before .before .push in (
-      subst⁻¹ (λ (k : ℕ). Stands (byTable (b .args .n) (b .args .table .now)) (opened k p) (u .last .1 .1 .1 .1 .1 .0) (u .result)) (u .ensures .next)
+      subst⁻¹ (λ (k : ℕ). Stands (graphOf (b .args .n) (b .args .table .now)) (opened k p) (u .last .1 .1 .1 .1 .1 .0) (u .result)) (u .ensures .next)
           (u .ensures .stands (opened d p) (opened (d + 1) p) (l .inv .0) (opened-decides p d h)),
       u .kept .1 .1 .1 .1 .1 .0 ∙ l .inv .1,
     )

@@ -10,7 +10,7 @@ use native.Mathlib.Nat.{not-suc-le-zero}
 use lib.ListN.{length, getD}
 use lib.Dec.{eqb}
 use borrow.Author.Tests.{eqb-true}
-use Rattle.model.specs.Graph.{onVertices, byTable}
+use Rattle.model.specs.Graph.{byTable, amongVertices, byteJoined}
 use Rattle.model.specs.Groups.{Settings, qualifies}
 use Rattle.model.specs.Meaning.{Clique, Qualifies}
 use Rattle.model.specs.Walk.{Position, Page, page}
@@ -87,11 +87,11 @@ module _ (n : ℕ) (t : List ℕ) where
 
   -- two vertices are joined where the byte of their pair is 1
   pub joined-test : (u v : ℕ) → Test (byTable n t .joined u v) (((u < n) × (v < n)) × (getD t (u * n + v) 0 ≡ 1))
-  unfolding byTable onVertices
+  unfolding byteJoined amongVertices
   joined-test u v = test-and (test-and (test-lt u n) (test-lt v n)) (test-eq (getD t (u * n + v) 0) 1)
 
   diagonal-test : Test (looped (byTable n t)) ((u : ℕ) × (u < n) × (getD t (u * n + u) 0 ≡ 1))
-  unfolding looped byTable onVertices
+  unfolding looped byteJoined amongVertices
   diagonal-test =
       test-map (test-any n (λ u. byTable n t .joined u u) (λ u. joined-test u u))
       (λ r. (r .0, r .1, r .2 .1))
@@ -99,7 +99,7 @@ module _ (n : ℕ) (t : List ℕ) where
 
   module _ (bits : (i : ℕ) → getD t i 0 ≤ 1) where
     mirror-test : Test (oneWay (byTable n t)) ((u : ℕ) × (v : ℕ) × (u < n) × (v < n) × (getD t (u * n + v) 0 ≢ getD t (v * n + u) 0))
-    unfolding oneWay byTable onVertices
+    unfolding oneWay byteJoined amongVertices
     mirror-test =
         test-map
         (test-any n _ (λ u. test-any n _ (λ v. differ-test (byTable n t .joined u v) (byTable n t .joined v u))))
@@ -181,7 +181,7 @@ module _ (n : ℕ) (t : List ℕ) (s : Settings) (p : List ℕ) (work : ℕ) whe
 
   -- the page call is refused with the first fault
   pub page-first : FirstFault (pageFaults n t s p work) (refusePage n t s p work)
-  unfolding refusePage refusePosition byTable onVertices
+  unfolding refusePage refusePosition byteJoined amongVertices
   page-first =
       input-first (positionFaults (byTable n t) (s .factor) p) _ (λ mirrored long.
       refuse-first 21 _ _ _ (over-test 2 p) (λ h21.
@@ -240,7 +240,7 @@ module _ (n : ℕ) (t : List ℕ) (s : Settings) (p : List ℕ) (work : ℕ) whe
 
   -- the empty set is a no
   pub query-empty : ((v : ℕ) → v < n → getD p v 0 ≢ 1) → query n t s p work .yes ≡ false
-  unfolding query queryReply byTable onVertices
+  unfolding query queryReply byteJoined amongVertices
   query-empty f = go (refuseQuery n t s p work)
     where
       empty : Clique (byTable n t) (byBytes p) → ⊥

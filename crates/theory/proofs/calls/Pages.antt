@@ -12,7 +12,7 @@ use lib.ListN.{length, take, drop, length-append, length-map}
 use lib.Seq.{take-at}
 use lib.Dec.{ltb}
 use Rattle.model.specs.Below.{bit, passing}
-use Rattle.model.specs.Graph.{Graph, onVertices, byTable, vertexAt}
+use Rattle.model.specs.Graph.{Graph, byTable, vertexAt}
 use Rattle.model.specs.Groups.{Settings, VertexSet}
 use Rattle.model.specs.Meaning.{Qualifies}
 use Rattle.model.specs.Walk.{Position, Rules, Page, halt, onward, fresh, finished, step, after, lasts, found, due, groupsOf, records, fullSets, fullList, page, stoppedFinished, stoppedFull, stoppedSpent}
@@ -294,7 +294,7 @@ reply-steps (suc k) r p out e = absurd (omega arith)
 -- An accepted page call on an unfinished position, with a budget of 1 or more and an output of n + 1 entries or more, makes at least one step.
 pub call-progress : (n : ℕ) (t : List ℕ) (s : Settings) (budget : ℕ) (p : Position) (out : List ℕ) (work : ℕ)
     → pageCall n t s budget p out work .refused ≡ 0 → finished p ≡ false → 1 ≤ budget → n + 1 ≤ length out → 1 ≤ pageCall n t s budget p out work .steps
-unfolding pageCall onVertices byTable
+unfolding pageCall
 call-progress n t s zero p out work e f b l = absurd (omega arith)
 call-progress n t s (suc budget) p out work e f b l =
     subst⁻¹ (λ (k : ℕ). 1 ≤ k) (reply-steps (refusePage n t s p work) _ p out e) (progress (byTable n t) s budget (length out) p l f)
@@ -350,12 +350,10 @@ module _ (n : ℕ) (t : List ℕ) (s : Settings) where
 
   -- so the rules of an accepted table are lawful
   pub table-lawful : refuseTable n t 0 ≡ 0 → Lawful (rules (byTable n t) s) n
-  unfolding onVertices byTable
   table-lawful e = lawful (byTable n t) (table-loopless e) s
 
   -- Demand 3: whatever the list of page calls, on a graph's table and any settings.
   pub demand3 : Demanded n t s
-  unfolding onVertices byTable
   demand3 valid cs a =
       let long = fresh-fit n .0 in
       let done = chain-demand (rules (byTable n t) s) n (table-lawful valid) (replies cs (fresh n)) (calls-chain cs (fresh n) long a) in

@@ -11,12 +11,12 @@ use lib.Dec.{ltb, eqb}
 use borrow.Author.Tests.{lt-ltb, ltb-true}
 use mathlib.Core.Logic.{_⊎_, inl, inr}
 use Rattle.model.specs.Below.{count}
-use Rattle.model.specs.Graph.{onVertices, byTable, degree}
+use Rattle.model.specs.Graph.{onVertices, byTable, degree, amongVertices, byteJoined}
 use Rattle.theory.proofs.basics.Tests.{count-same, passes-or-fails}
 
 -- two tables that agree on the vertices, whatever their layouts, are one graph: every definition then has one value for both
 pub same-graph : (n : ℕ) (f g : ℕ → ℕ → Bool) → ((u v : ℕ) → u < n → v < n → f u v ≡ g u v) → onVertices n f ≡ onVertices n g
-unfolding onVertices
+unfolding amongVertices
 same-graph n f g e = λ i. record { size = n; joined = λ u v. at u v (passes-or-fails (ltb u n)) (passes-or-fails (ltb v n)) i }
   where
     at : (u v : ℕ) → (ltb u n ≡ true) ⊎ (ltb u n ≡ false) → (ltb v n ≡ true) ⊎ (ltb v n ≡ false) → (ltb u n && ltb v n && f u v) ≡ (ltb u n && ltb v n && g u v)
@@ -31,12 +31,12 @@ row-end n u h = le-trans (omega (arith, suc-mul u n)) (mul-le-mul-right n h)
 module _ (n : ℕ) (t : List ℕ) (u : ℕ) (hu : u < n) where
   -- two vertices are joined where the byte of their pair is 1
   pub joined-at : (v : ℕ) → v < n → byTable n t .joined u v ≡ eqb (getD t (u * n + v) 0) 1
-  unfolding onVertices byTable
+  unfolding amongVertices byteJoined
   joined-at v hv = rw (lt-ltb u n hu, lt-ltb v n hv)
 
   -- the degree is the ones in the row
   pub degree-row : degree (byTable n t) u ≡ count n (λ i. eqb (getD (take n (drop (u * n) t)) i 0) 1)
-  unfolding degree onVertices byTable
+  unfolding degree amongVertices byteJoined
   degree-row = count-same n _ _ (λ v hv. joined-at v hv ∙ ap (λ (x : ℕ). eqb x 1) (sym (getD-take n (drop (u * n) t) v 0 hv ∙ getD-drop (u * n) t v 0)))
 
   -- the same of the row as a part of the table, as code lends it

@@ -11,7 +11,7 @@ use lib.ListN.{length, getD, take, drop}
 use lib.Seq.{take-at}
 use lib.Dec.{ltb, eqb}
 use borrow.Author.Tests.{eq-eqb}
-use Rattle.model.specs.Graph.{onVertices, byTable}
+use Rattle.model.specs.Graph.{byTable, amongVertices, byteJoined}
 use Rattle.model.specs.Calls.{refuseTable}
 use Rattle.model.specs.Faults.{tableFaults}
 use Rattle.model.specs.Text.{TextReply, readText}
@@ -30,7 +30,7 @@ module _ (n : ℕ) (xs : List Line) (t : List ℕ) (a : Table n xs t) (ends : (u
 
   -- two vertices are joined exactly where some e line has their pair
   pub joined-test : (u v : ℕ) → Test (byTable n t .joined u v) (HasPair xs (suc u) (suc v))
-  unfolding byTable onVertices
+  unfolding byteJoined amongVertices
   joined-test u v = (there, back)
     where
       there : (ltb u n && ltb v n && eqb (getD t (u * n + v) 0) 1) ≡ true → HasPair xs (suc u) (suc v)
