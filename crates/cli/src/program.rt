@@ -65,7 +65,7 @@ fn list(table: &[u8], n: usize, s: Settings)
 
 // Reads the text, of which one byte more than is allowed tells that it is too long, and lists its graph or refuses it.
 fn answer(s: Settings)
-    requires { ⌜ refuseSettings (settingsOf s) 0 ≡ 0 ⌝ }
+    requires { ⌜ refuseSettings (settingsOf s) ≡ 0 ⌝ }
 {
     let mut text = [0u8; 65537];
     let mut table = [0u8; 65536];

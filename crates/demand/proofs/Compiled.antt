@@ -1,9 +1,9 @@
 -- Demands 2 and 3 hold of the compiled functions `page::page`, `query::set_query` and `dimacs::read_text`, and of the exported ones of crate `ffi` that C
 -- and Rust link. Nothing of a contract is restated: `promised` is the contract that the checker proved.
 -- Assumes nothing.
-use Prim.Native.Nat.{ℕ}
 use mathlib.Core.List.{List, [], _∷_, map}
 use borrow.Fn.Kinds.{Out}
+use Rattle.model.specs.Graph.{Graph}
 use Rattle.model.specs.Groups.{Settings}
 use Rattle.model.specs.Walk.{Position, fresh}
 use Rattle.page.proofs.page.Reads as page
@@ -44,25 +44,25 @@ exported-reader-asks-nothing κs a = tt
 
 -- a contract that is what `Promised` asks of a call
 module _ {Post : Out 4 page-kinds.ps page-kinds.r} (promised : (k : CompiledPage Post) → Promised (callOf k)) where
-  chained-calls : (t : List ℕ) (s : Settings) (p : Position) (ks : List (CompiledPage Post)) → Chained t s p ks → Calls t s p (map callOf ks)
-  chained-calls t s p [] h = tt
-  chained-calls t s p (k ∷ ks) h = (record { promised = promised k; handed = h .0; agrees = h .1 }, chained-calls t s (callOf k .position-left) ks (h .2))
+  chained-calls : (G : Graph) (s : Settings) (p : Position) (ks : List (CompiledPage Post)) → Chained G s p ks → Calls G s p (map callOf ks)
+  chained-calls G s p [] h = tt
+  chained-calls G s p (k ∷ ks) h = (record { promised = promised k; handed = h .0; agrees = h .1 }, chained-calls G s (callOf k .position-left) ks (h .2))
 
 -- Demand 3 of `page::page`.
 pub compiled-demand : PageHolds page.Post
-compiled-demand n t s valid ks h = demand n t s valid (map callOf ks) (chained-calls (λ k. k .promised) t s (fresh n) ks h)
+compiled-demand G s simple ks h = demand G s simple (map callOf ks) (chained-calls (λ k. k .promised) G s (fresh (G .size)) ks h)
 
 -- Demand 3 of `isolated_page`.
 pub exported-demand : PageHolds exported-page.Post
-exported-demand n t s valid ks h = demand n t s valid (map callOf ks) (chained-calls (λ k. k .promised) t s (fresh n) ks h)
+exported-demand G s simple ks h = demand G s simple (map callOf ks) (chained-calls (λ k. k .promised) G s (fresh (G .size)) ks h)
 
 -- Demand 2 of the finished list of `page::page`.
 pub compiled-list-demand : ListHolds page.Post
-compiled-list-demand n t s valid ks h = list-demand n t s valid (map callOf ks) (chained-calls (λ k. k .promised) t s (fresh n) ks h)
+compiled-list-demand G s simple ks h = list-demand G s simple (map callOf ks) (chained-calls (λ k. k .promised) G s (fresh (G .size)) ks h)
 
 -- Demand 2 of the finished list of `isolated_page`.
 pub exported-list-demand : ListHolds exported-page.Post
-exported-list-demand n t s valid ks h = list-demand n t s valid (map callOf ks) (chained-calls (λ k. k .promised) t s (fresh n) ks h)
+exported-list-demand G s simple ks h = list-demand G s simple (map callOf ks) (chained-calls (λ k. k .promised) G s (fresh (G .size)) ks h)
 
 -- ---- the set query
 

@@ -6,27 +6,27 @@ use mathlib.Core.Logic.{_≢_}
 use mathlib.Core.List.{List, [], _∷_, map}
 use native.Mathlib.Omega.{arith}
 use lib.ListN.{length}
+use Rattle.model.specs.Graph.{Graph}
 use Rattle.model.specs.Groups.{Settings, settings, VertexSet}
 use Rattle.model.specs.Meaning.{Qualifies}
 use Rattle.model.specs.Walk.{Position, Page, fresh}
 use Rattle.model.specs.Listing.{rules}
-use Rattle.model.specs.Calls.{PageReply, refusePage, replyOf, pageCall}
+use Rattle.model.specs.Calls.{Call, PageReply, refusePage, replyOf, replyTo}
 use Rattle.model.specs.Demand as model
 use Rattle.model.specs.Demand.{joinedOutput, SomeFinished, Demand3}
 use Rattle.theory.proofs.calls.Bounds.{page-bounds}
 use Rattle.theory.proofs.calls.Pages.{call-progress, demand3}
-use Rattle.graph.specs.Table.{graphOf}
+use Rattle.graph.specs.Table.{lent}
 use Rattle.rounds.specs.Answer.{PageReplies}
 use Rattle.demand.specs.Demand.{MadeCall, Promised, reported, Calls, EachCall, Every, PageDemanded}
 
 -- ---- a call of `page::page` and its reply in document 01
 
 -- what the call brought beside the position
-abbrev brought : MadeCall → model.Call
+abbrev brought : MadeCall → Call
 brought c =
     record {
-      size = c .size;
-      table = c .table;
+      lent = lent (c .size) (c .table);
       settings = settings (c .notion) (c .kind) (c .factor);
       budget = c .budget;
       output = c .output;
@@ -34,7 +34,7 @@ brought c =
     }
 
 -- a call that keeps its promise reports the reply
-reported-is : (c : MadeCall) → Promised c → reported c ≡ model.replyTo (brought c) (c .position)
+reported-is : (c : MadeCall) → Promised c → reported c ≡ replyTo (brought c) (c .position)
 reported-is c r i =
     record {
       refused = r .replies .refusal i;
@@ -47,23 +47,23 @@ reported-is c r i =
       output = r .replies .output i;
     }
 
-module _ (t : List ℕ) (s : Settings) where
+module _ (G : Graph) (s : Settings) where
   -- what the calls of a list reported are the replies of document 01's page calls, one after the other
-  replies-are : (p : Position) (cs : List MadeCall) → Calls t s p cs → map reported cs ≡ model.replies (map brought cs) p
+  replies-are : (p : Position) (cs : List MadeCall) → Calls G s p cs → map reported cs ≡ model.replies (map brought cs) p
   unfolding model.replies
   replies-are p [] h = refl
   replies-are p (c ∷ cs) h =
-      let e : reported c ≡ model.replyTo (brought c) p = reported-is c (h .0 .promised) ∙ ap (model.replyTo (brought c)) (h .0 .handed) in
-      let f : c .position-left ≡ model.replyTo (brought c) p .position = ap (λ (r : PageReply). r .position) e in
+      let e : reported c ≡ replyTo (brought c) p = reported-is c (h .0 .promised) ∙ ap (replyTo (brought c)) (h .0 .handed) in
+      let f : c .position-left ≡ replyTo (brought c) p .position = ap (λ (r : PageReply). r .position) e in
       λ i. e i ∷ (replies-are (c .position-left) cs (h .1) ∙ ap (model.replies (map brought cs)) f) i
 
-  agree-are : (p : Position) (cs : List MadeCall) → Calls t s p cs → model.Agree t s (map brought cs) p
+  agree-are : (p : Position) (cs : List MadeCall) → Calls G s p cs → model.Agree G s (map brought cs) p
   agree-are p [] h = tt
   agree-are p (c ∷ cs) h =
-      let e : reported c ≡ model.replyTo (brought c) p = reported-is c (h .0 .promised) ∙ ap (model.replyTo (brought c)) (h .0 .handed) in
-      let f : c .position-left ≡ model.replyTo (brought c) p .position = ap (λ (r : PageReply). r .position) e in (
+      let e : reported c ≡ replyTo (brought c) p = reported-is c (h .0 .promised) ∙ ap (replyTo (brought c)) (h .0 .handed) in
+      let f : c .position-left ≡ replyTo (brought c) p .position = ap (λ (r : PageReply). r .position) e in (
         λ z. h .0 .agrees (ap (λ (r : PageReply). r .refused) e ∙ z),
-        subst (λ (q : Position). model.Agree t s (map brought cs) q) f (agree-are (c .position-left) cs (h .1)),
+        subst (λ (q : Position). model.Agree G s (map brought cs) q) f (agree-are (c .position-left) cs (h .1)),
       )
 
 -- ---- each call by itself
@@ -77,39 +77,36 @@ refused-still (suc k) r p out d = (refl, refl, refl, refl, refl)
 
 -- whatever a call brings that keeps its promise
 pub each-call : (c : MadeCall) → Promised c → EachCall c
-unfolding pageCall
+unfolding replyTo
 each-call c h =
     record {
-      within-budget = let b = page-bounds (c .size) (c .table) s (c .budget) (c .position) (c .output) (length (c .work)) .steps-within in let e = r .steps in omega arith;
+      within-budget = let b = page-bounds (brought c) (c .position) .steps-within in let e = r .steps in omega arith;
       makes-step = λ z f b l.
-          let m = call-progress (c .size) (c .table) s (c .budget) (c .position) (c .output) (length (c .work)) (sym (r .refusal) ∙ z) f b l in
+          let m = call-progress (brought c) (c .position) (sym (r .refusal) ∙ z) f b l in
           let e = r .steps in
           omega arith;
       refused-idle = λ d.
-          let i = refused-still (refusePage (c .size) (c .table) s (c .position) (length (c .work))) _ (c .position) (c .output) (λ z. d (r .refusal ∙ z)) in
+          let i = refused-still (refusePage (lent (c .size) (c .table)) (brought c .settings) (c .position) (length (c .work))) _ (c .position) (c .output) (λ z. d (r .refusal ∙ z)) in
           (r .used ∙ i .0, r .groups ∙ i .1, r .steps ∙ i .2, r .position ∙ i .3, r .output ∙ i .4, h .work-kept d);
     }
   where
-    s : Settings
-    s = settings (c .notion) (c .kind) (c .factor)
-
-    r : PageReplies (c .answer) (c .position-left) (c .output-left) (pageCall (c .size) (c .table) s (c .budget) (c .position) (c .output) (length (c .work)))
+    r : PageReplies (c .answer) (c .position-left) (c .output-left) (replyTo (brought c) (c .position))
     r = h .replies
 
-every-call : (t : List ℕ) (s : Settings) (p : Position) (cs : List MadeCall) → Calls t s p cs → Every cs
-every-call t s p [] h = tt
-every-call t s p (c ∷ cs) h = (each-call c (h .0 .promised), every-call t s (c .position-left) cs (h .1))
+every-call : (G : Graph) (s : Settings) (p : Position) (cs : List MadeCall) → Calls G s p cs → Every cs
+every-call G s p [] h = tt
+every-call G s p (c ∷ cs) h = (each-call c (h .0 .promised), every-call G s (c .position-left) cs (h .1))
 
 -- ---- the whole list
 
 -- Demand 3, of any list of calls that keep the promise of `page::page`.
 pub demand : PageDemanded
-demand n t s valid cs h =
-    let d = demand3 n t s valid (map brought cs) (agree-are t s (fresh n) cs h) in
-    let e = sym (replies-are t s (fresh n) cs h) in
+demand G s simple cs h =
+    let d = demand3 G s simple (map brought cs) (agree-are G s (fresh (G .size)) cs h) in
+    let e = sym (replies-are G s (fresh (G .size)) cs h) in
     record {
-      done = subst (Demand3 (rules (graphOf n t) s) n) e (d .done);
+      done = subst (Demand3 (rules G s) (G .size)) e (d .done);
       none-qualifies =
-          subst (λ (rs : List PageReply). SomeFinished rs → joinedOutput rs ≡ [] → (S : VertexSet) → Qualifies (graphOf n t) s S → ⊥) e (d .none-qualifies);
-      each = every-call t s (fresh n) cs h;
+          subst (λ (rs : List PageReply). SomeFinished rs → joinedOutput rs ≡ [] → (S : VertexSet) → Qualifies G s S → ⊥) e (d .none-qualifies);
+      each = every-call G s (fresh (G .size)) cs h;
     }

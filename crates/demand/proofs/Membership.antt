@@ -7,14 +7,15 @@ use lib.ListN.{length}
 use Rattle.model.specs.Below.{bit}
 use Rattle.model.specs.Walk.{fullSets, fullList}
 use Rattle.model.specs.Listing.{rules}
-use Rattle.model.specs.Calls.{byBytes, refuseQuery, query}
+use Rattle.model.specs.Calls.{byBytes, refuseQuery, answerTo}
 use Rattle.model.specs.Groups.{settings, qualifies}
 use Rattle.model.specs.Text.{TextReply}
+use Rattle.theory.proofs.calls.TableFaults.{byte-table}
 use Rattle.theory.proofs.calls.Faults.{query-accepted-iff, query-yes-iff}
 use Rattle.theory.proofs.walk.Listing.{lists}
 use Rattle.theory.proofs.text.EdgeText.{accepted-iff, accepted-reply}
 use Rattle.theory.proofs.text.EdgeTextGraph.{read-graph-accepted}
-use Rattle.graph.specs.Table.{graphOf}
+use Rattle.graph.specs.Table.{lent, graphOf}
 use Rattle.query.proofs.Answer.{reply-refused}
 use Rattle.demand.specs.Membership.{QueryDemand, ListDemand, ReaderDemand}
 use Rattle.demand.proofs.Demand.{demand}
@@ -26,18 +27,17 @@ bit-true false e = absurd (omega arith)
 
 -- An accepted set query says yes exactly where the set qualifies.
 pub query-demand : QueryDemand
-unfolding query
+unfolding answerTo
 query-demand n t set work left notion kind c a h e =
     let s = settings notion kind c in
-    let accepted = sym (reply-refused (refuseQuery n t s set (length work)) (qualifies (graphOf n t) s (byBytes set))) ∙ sym (h .refused) ∙ e in
-    let says = query-yes-iff n t s set (length work) (query-accepted-iff n t s set (length work) .0 accepted) in
+    let accepted = sym (reply-refused (refuseQuery (lent n t) s set (length work)) (qualifies (graphOf n t) s (byBytes set))) ∙ sym (h .refused) ∙ e in
+    let says = query-yes-iff (byte-table n t) s set (length work) (query-accepted-iff (byte-table n t) s set (length work) .0 accepted) in
     (λ y. says .0 (bit-true _ (sym (h .yes) ∙ y)), λ q. h .yes ∙ ap bit (says .1 q))
 
 -- The finished list has exactly the sets that qualify.
 pub list-demand : ListDemand
 unfolding fullList
-list-demand n t s valid cs h f =
-    (fullSets (rules (graphOf n t) s) n, demand n t s valid cs h .done .whole f .0, lists (graphOf n t) s)
+list-demand G s simple cs h f = (fullSets (rules G s) (G .size), demand G s simple cs h .done .whole f .0, lists G s)
 
 -- A text is read exactly where it is an edge text, and gives its graph.
 pub reader-demand : ReaderDemand

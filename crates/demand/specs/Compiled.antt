@@ -8,13 +8,14 @@ use mathlib.Core.List.{List, [], _∷_, map}
 use contract.Lifetimes.{Lfts}
 use borrow.Fn.Kinds.{PK, RK, In, Out, Dens, resT, endedOf}
 use denote.Triple.Clauses.{AtExit}
+use Rattle.model.specs.Graph.{Graph}
 use Rattle.model.specs.Groups.{Settings, settings}
-use Rattle.model.specs.Meaning.{Qualifies, Lists}
+use Rattle.model.specs.Meaning.{Qualifies, Simple, Lists}
 use Rattle.model.specs.Walk.{Position, fresh, records}
 use Rattle.model.specs.Listing.{rules}
-use Rattle.model.specs.Calls.{refuseTable, byBytes}
+use Rattle.model.specs.Calls.{byBytes}
 use Rattle.model.specs.Demand.{joinedOutput, SomeFinished}
-use Rattle.graph.specs.Table.{graphOf}
+use Rattle.graph.specs.Table.{lent, graphOf}
 use Rattle.page.proofs.page.Kinds as page-kinds
 use Rattle.query.proofs.set_query.Kinds as query-kinds
 use Rattle.dimacs.proofs.read_text.Kinds as reader-kinds
@@ -59,25 +60,25 @@ callOf k =
       work-left = k .at-exit .1 .1 .1 .0 .now;
     }
 
--- the first call is handed p, each later one the position as the call before it left it; and every accepted call brings the table t and the settings s
-abbrev pub Chained : {Post : Out 4 page-kinds.ps page-kinds.r} → List ℕ → Settings → Position → List (CompiledPage Post) → Type 0
-Chained t s p [] = Unit {0}
-Chained t s p (k ∷ ks) =
+-- the first call is handed p, each later one the position as the call before it left it; and every accepted call brings the graph G and the settings s
+abbrev pub Chained : {Post : Out 4 page-kinds.ps page-kinds.r} → Graph → Settings → Position → List (CompiledPage Post) → Type 0
+Chained G s p [] = Unit {0}
+Chained G s p (k ∷ ks) =
     (callOf k .position ≡ p)
-    × (callOf k .answer .refusal ≡ 0 → (callOf k .table ≡ t) × (settings (callOf k .notion) (callOf k .kind) (callOf k .factor) ≡ s))
-    × Chained t s (callOf k .position-left) ks
+    × (callOf k .answer .refusal ≡ 0 → (lent (callOf k .size) (callOf k .table) .graph ≡ G) × (settings (callOf k .notion) (callOf k .kind) (callOf k .factor) ≡ s))
+    × Chained G s (callOf k .position-left) ks
 
--- Demand 3 of a compiled page call: of every graph's table, one that is not refused, all settings and any list of its calls that begins at fresh.
+-- Demand 3 of a compiled page call: of every graph of document 01, all settings and any list of its calls that begins at fresh.
 abbrev pub PageHolds : Out 4 page-kinds.ps page-kinds.r → Type 0
 PageHolds Post =
-    (n : ℕ) (t : List ℕ) (s : Settings) → refuseTable n t 0 ≡ 0 → (ks : List (CompiledPage Post)) → Chained t s (fresh n) ks → PageDemand n t s (map callOf ks)
+    (G : Graph) (s : Settings) → Simple G → (ks : List (CompiledPage Post)) → Chained G s (fresh (G .size)) ks → PageDemand G s (map callOf ks)
 
 -- Demand 2, the finished list: once a call has said Finished, the joined output is the records of positions that list the sets that qualify.
 abbrev pub ListHolds : Out 4 page-kinds.ps page-kinds.r → Type 0
 ListHolds Post =
-    (n : ℕ) (t : List ℕ) (s : Settings) → refuseTable n t 0 ≡ 0 → (ks : List (CompiledPage Post)) → Chained t s (fresh n) ks
+    (G : Graph) (s : Settings) → Simple G → (ks : List (CompiledPage Post)) → Chained G s (fresh (G .size)) ks
     → SomeFinished (map reported (map callOf ks))
-    → (ps : List Position) × (joinedOutput (map reported (map callOf ks)) ≡ records (rules (graphOf n t) s) ps) × Lists (graphOf n t) s ps
+    → (ps : List Position) × (joinedOutput (map reported (map callOf ks)) ≡ records (rules G s) ps) × Lists G s ps
 
 -- ---- the set query
 

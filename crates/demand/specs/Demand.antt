@@ -1,18 +1,19 @@
 -- Document 01, demand 3, of the calls of `page::page`: a single claim about a whole list of page calls.
 -- Assumes nothing.
-use Prim.Native.Nat.{ℕ, _+_, _≤_}
+use Prim.Native.Nat.{ℕ, _≤_}
 use mathlib.Core.Path.{_≡_}
 use mathlib.Core.Bool.{false}
 use mathlib.Core.Logic.{_≢_}
 use mathlib.Core.List.{List, [], _∷_, map}
 use lib.ListN.{length}
+use Rattle.model.specs.Graph.{Graph}
 use Rattle.model.specs.Groups.{Settings, settings, VertexSet}
-use Rattle.model.specs.Meaning.{Qualifies}
+use Rattle.model.specs.Meaning.{Qualifies, Simple}
 use Rattle.model.specs.Walk.{Position, fresh, finished}
-use Rattle.model.specs.Listing.{rules}
-use Rattle.model.specs.Calls.{PageReply, refuseTable}
+use Rattle.model.specs.Listing.{rules, recordLength}
+use Rattle.model.specs.Calls.{PageReply}
 use Rattle.model.specs.Demand.{joinedOutput, SomeFinished, Demand3}
-use Rattle.graph.specs.Table.{graphOf}
+use Rattle.graph.specs.Table.{lent}
 use Rattle.rounds.specs.declared.PageAnswer.{PageAnswer}
 use Rattle.page.specs.Call.{PageCalled}
 
@@ -35,7 +36,7 @@ pub record MadeCall : Type 0 where
 -- the call keeps the promise of `page::page`: these are the words of its `ensures`
 abbrev pub Promised : MadeCall → Type 0
 Promised c =
-    PageCalled (c .size) (c .table) (settings (c .notion) (c .kind) (c .factor)) (c .budget) (c .position) (c .output) (c .work)
+    PageCalled (lent (c .size) (c .table)) (settings (c .notion) (c .kind) (c .factor)) (c .budget) (c .position) (c .output) (c .work)
     (c .answer) (c .position-left) (c .output-left) (c .work-left)
 
 -- what a call reported, with the position and the output as it left them
@@ -52,26 +53,26 @@ reported c =
       output = c .output-left;
     }
 
--- a call of a list on the graph of the table t with the settings s, where the position is p
-pub record OneOf (t : List ℕ) (s : Settings) (p : Position) (c : MadeCall) : Type 0 where
+-- a call of a list on the graph G with the settings s, where the position is p
+pub record OneOf (G : Graph) (s : Settings) (p : Position) (c : MadeCall) : Type 0 where
   -- it keeps the promise of `page::page`
   pub promised : Promised c
   -- it is handed the position as the call before it left it, and nobody else writes it meanwhile
   pub handed : c .position ≡ p
   -- "Every accepted call brings this graph's table and this notion, kind and factor. A refused call may bring anything else beside the position."
-  pub agrees : c .answer .refusal ≡ 0 → (c .table ≡ t) × (settings (c .notion) (c .kind) (c .factor) ≡ s)
+  pub agrees : c .answer .refusal ≡ 0 → (lent (c .size) (c .table) .graph ≡ G) × (settings (c .notion) (c .kind) (c .factor) ≡ s)
 
 -- a list of calls of which the first is handed p, and each later one the position as the call before it left it
-abbrev pub Calls : List ℕ → Settings → Position → List MadeCall → Type 0
-Calls t s p [] = Unit {0}
-Calls t s p (c ∷ cs) = OneOf t s p c × Calls t s (c .position-left) cs
+abbrev pub Calls : Graph → Settings → Position → List MadeCall → Type 0
+Calls G s p [] = Unit {0}
+Calls G s p (c ∷ cs) = OneOf G s p c × Calls G s (c .position-left) cs
 
 -- what demand 3 says of each call by itself
 pub record EachCall (c : MadeCall) : Type 0 where
   -- "steps made equal the budget: stop Spent": never more steps than the budget
   pub within-budget : c .answer .steps ≤ c .budget
   -- "With budget 1 or more and output of n + 1 entries or more, a call on an unfinished walk makes at least one step."
-  pub makes-step : c .answer .refusal ≡ 0 → finished (c .position) ≡ false → 1 ≤ c .budget → c .size + 1 ≤ length (c .output) → 1 ≤ c .answer .steps
+  pub makes-step : c .answer .refusal ≡ 0 → finished (c .position) ≡ false → 1 ≤ c .budget → recordLength (c .size) ≤ length (c .output) → 1 ≤ c .answer .steps
   -- a refused call "adds no output, groups or steps", and leaves the lent memory unchanged
   pub refused-idle : c .answer .refusal ≢ 0
       → (c .answer .used ≡ 0) × (c .answer .groups ≡ 0) × (c .answer .steps ≡ 0) × (c .position-left ≡ c .position) × (c .output-left ≡ c .output) × (c .work-left ≡ c .work)
@@ -82,13 +83,13 @@ Every [] = Unit {0}
 Every (c ∷ cs) = EachCall c × Every cs
 
 -- "After the list:"
-pub record PageDemand (n : ℕ) (t : List ℕ) (s : Settings) (cs : List MadeCall) : Type 0 where
+pub record PageDemand (G : Graph) (s : Settings) (cs : List MadeCall) : Type 0 where
   -- the four points of demand 3, of what the calls reported
-  pub done : Demand3 (rules (graphOf n t) s) n (map reported cs)
+  pub done : Demand3 (rules G s) (G .size) (map reported cs)
   -- "A page that says Finished with an empty list: demand 3 shuts it out, no output meaning no qualifying set."
-  pub none-qualifies : SomeFinished (map reported cs) → joinedOutput (map reported cs) ≡ [] → (S : VertexSet) → Qualifies (graphOf n t) s S → ⊥
+  pub none-qualifies : SomeFinished (map reported cs) → joinedOutput (map reported cs) ≡ [] → (S : VertexSet) → Qualifies G s S → ⊥
   pub each : Every cs
 
--- Demand 3: of every graph's table, one that is not refused, all settings, and any list of calls of `page::page` that begins at fresh, the empty one too
+-- Demand 3: of every graph of document 01, all settings, and any list of calls of `page::page` that begins at fresh, the empty one too
 abbrev pub PageDemanded : Type 0
-PageDemanded = (n : ℕ) (t : List ℕ) (s : Settings) → refuseTable n t 0 ≡ 0 → (cs : List MadeCall) → Calls t s (fresh n) cs → PageDemand n t s cs
+PageDemanded = (G : Graph) (s : Settings) → Simple G → (cs : List MadeCall) → Calls G s (fresh (G .size)) cs → PageDemand G s cs

@@ -1,6 +1,7 @@
 // The calls as C and Rust link them: a static library of exported functions. Each hands its arguments on and repeats the promise of what it calls.
 // A slice passes as its address and its number of elements.
 ghost use Rattle.model.specs.Groups.{settings};
+ghost use Rattle.graph.specs.Table.{lent};
 ghost use Rattle.dimacs.specs.Reply.{ReadsAs};
 ghost use Rattle.page.specs.Call.{PageCalled};
 ghost use Rattle.query.specs.Query.{Answers};
@@ -22,7 +23,7 @@ pub extern "C" fn isolated_page(
     budget: u32,
 ) -> PageAnswer
     ensures { λ r. ⌜
-        PageCalled n (now (table .entry)) (settings notion kind c) budget (now (position .entry)) (now (output .entry)) (now (work .entry))
+        PageCalled (lent n (now (table .entry))) (settings notion kind c) budget (now (position .entry)) (now (output .entry)) (now (work .entry))
         r (now (position .exit)) (now (output .exit)) (now (work .exit))
         ⌝ }
 {
@@ -40,7 +41,7 @@ pub extern "C" fn isolated_set_query(
     kind: u32,
     c: u32,
 ) -> SetAnswer
-    ensures { λ r. ⌜ Answers n (now (table .entry)) (now (set .entry)) (now (work .entry)) (now (work .exit)) notion kind c r ⌝ }
+    ensures { λ r. ⌜ Answers (lent n (now (table .entry))) (now (set .entry)) (now (work .entry)) (now (work .exit)) notion kind c r ⌝ }
 {
     query::set_query(table, set, work, n, notion, kind, c)
 }

@@ -2,21 +2,21 @@
 -- Assumes nothing.
 use Prim.Native.Nat.{ℕ, zero, suc, _*_, _≤_, _<_}
 use mathlib.Core.Path.{_≡_, refl}
-use mathlib.Core.Bool.{Bool, true, false, _||_, not, Bool·beq, true≢false}
+use mathlib.Core.Bool.{Bool, true, false, _||_, not, Bool·beq}
 use mathlib.Core.List.{List, [], _∷_}
 use mathlib.Core.Logic.{_⊎_, inl, inr}
 use native.Mathlib.Nat.{not-suc-le-zero, le-of-suc-le-suc}
 use native.Mathlib.Omega.{arith}
 use lib.ListN.{length, getD}
 use lib.Dec.{ltb, eqb}
-use borrow.Author.Tests.{lt-ltb, le-ltb, ltb-false, eqb-true, not-false}
+use borrow.Author.Tests.{lt-ltb, le-ltb}
 use Rattle.model.specs.Below.{any}
-use Rattle.model.specs.Graph.{Graph, byTable, amongVertices, byteJoined}
+use Rattle.model.specs.Graph.{Graph, byTable}
+use Rattle.model.specs.Meaning.{Simple}
 use Rattle.model.specs.Calls.{refuse, over, looped, oneWay, refuseTable}
-use Rattle.theory.proofs.basics.Gates.{Gate, gate-one, gate-then}
-use Rattle.theory.proofs.basics.Tests.{test-self, test-any, any-found, any-none, any-each, trichotomy}
-use Rattle.theory.proofs.calls.PageAccepted.{refuse-pass}
-use Rattle.graph.specs.Table.{TableFits, differ}
+use Rattle.theory.proofs.basics.Tests.{test-self, test-any, any-found, any-none, any-each, not-different, trichotomy}
+use Rattle.theory.proofs.calls.TableFaults.{table-accepted-iff, byte-table}
+use Rattle.graph.specs.Table.{TableFits, lent, graphOf, differ}
 
 -- refusal 3: a byte that is over m, and none
 pub over-found : (m : ℕ) (bs : List ℕ) (i : ℕ) → i < length bs → m < getD bs i 0 → over m bs ≡ true
@@ -67,49 +67,22 @@ module _ (G : Graph) where
       at u v hu hv (inr (inl e)) = rw e (differ-self u)
       at u v hu hv (inr (inr l)) = differ-turn u v (any-each v (differ G v) (f v hv) u l)
 
--- the five tests in their order
-abbrev pub five : Bool → Bool → Bool → Bool → Bool → ℕ → ℕ
-five a b c d e later = refuse 1 a (refuse 2 b (refuse 3 c (refuse 4 d (refuse 5 e later))))
-
--- what an accepted table has
-pub record TableAccepted (n : ℕ) (t : List ℕ) : Type 0 where
-  pub fits : TableFits n t
-  pub bits : over 1 t ≡ false
-  pub no-loop : (u : ℕ) → u < n → byTable n t .joined u u ≡ false
-  pub both-ways : (u v : ℕ) → u < n → v < n → byTable n t .joined u v ≡ byTable n t .joined v u
-
 -- the refusal number by the outcome of each test
 pub refusal-by : (n : ℕ) (t : List ℕ) {a b c d e : Bool} → ltb 1024 n ≡ a → not (eqb (length t) (n * n)) ≡ b → over 1 t ≡ c → looped (byTable n t) ≡ d
-    → oneWay (byTable n t) ≡ e → five a b c d e 0 ≡ refuseTable n t 0
+    → oneWay (byTable n t) ≡ e → refuse 1 a (refuse 2 b (refuse 3 c (refuse 4 d (refuse 5 e 0)))) ≡ refuseTable n t
 unfolding refuseTable
 refusal-by n t p q r s o = rw (p, q, r, s, o)
 
-module _ (n : ℕ) (t : List ℕ) where
-  -- the later tests decide where the table is accepted, and the table decides where it is not
-  pub table-gate : Gate (refuseTable n t)
-  unfolding refuseTable
-  table-gate =
-      gate-then (refuse 1 _) _ (gate-one 0 (ltb 1024 n))
-      (gate-then (refuse 2 _) _ (gate-one 1 (not (eqb (length t) (n * n))))
-      (gate-then (refuse 3 _) _ (gate-one 2 (over 1 t)) (gate-then (refuse 4 _) _ (gate-one 3 (looped (byTable n t))) (gate-one 4 (oneWay (byTable n t))))))
+-- ---- a table without a fault
 
-  pub table-accepted : refuseTable n t 0 ≡ 0 → TableAccepted n t
-  unfolding refuseTable looped oneWay byteJoined amongVertices
-  table-accepted h =
-      let size = refuse-pass 0 _ _ h in
-      let whole = refuse-pass 1 _ _ (size .1) in
-      let bytes = refuse-pass 2 _ _ (whole .1) in
-      let loops = refuse-pass 3 _ _ (bytes .1) in
-      let ways = refuse-pass 4 _ _ (loops .1) in
-      record {
-        fits = record { small = ltb-false 1024 n (size .0); whole = eqb-true (length t) (n * n) (not-false _ (whole .0)) };
-        bits = bytes .0;
-        no-loop = any-each n (λ u. byTable n t .joined u u) (loops .0);
-        both-ways = λ u v hu hv. same _ _ (any-each n (differ (byTable n t) u) (any-each n (λ w. any n (differ (byTable n t) w)) (ways .0) u hu) v hv);
-      }
-    where
-      same : (a b : Bool) → not (Bool·beq a b) ≡ false → a ≡ b
-      same true true e = refl
-      same true false e = absurd (true≢false e)
-      same false true e = absurd (true≢false e)
-      same false false e = refl
+module _ (n : ℕ) (t : List ℕ) where
+  -- it has the length that code relies on
+  pub table-fits : lent n t .fault ≡ 0 → TableFits n t
+  table-fits e =
+      let none = table-accepted-iff n t .0 e in
+      let few = none .0 in
+      record { small = omega arith; whole = not-different (length t) (n * n) (none .1 .0) }
+
+  -- and its graph is one of document 01
+  pub lent-simple : lent n t .fault ≡ 0 → Simple (graphOf n t)
+  lent-simple = byte-table n t .simple

@@ -5,16 +5,22 @@ use mathlib.Core.Path.{_≡_}
 use mathlib.Core.Bool.{Bool, not, Bool·beq}
 use mathlib.Core.List.{List}
 use lib.ListN.{length}
-use Rattle.model.specs.Graph.{Graph, byTable}
+use Rattle.model.specs.Graph.{Graph, LentGraph}
+use Rattle.model.specs.Calls.{byteTable}
 
 -- Document 01, "Graph and ranks": n is at most 1,024 and the table has n × n bytes
 pub record TableFits (n : ℕ) (t : List ℕ) : Type 0 where
   pub small : n ≤ 1024
   pub whole : length t ≡ n * n
 
--- the graph on n vertices that the table holds: code above this crate speaks of it by this name alone, whatever the table's form
+-- What code is lent as a graph on n vertices: here the form of the table is fixed, and code above this crate speaks of what it is lent by this name
+-- and the next alone.
+abbrev pub lent : ℕ → List ℕ → LentGraph
+lent n t = byteTable n t
+
+-- the graph that the table holds
 abbrev pub graphOf : ℕ → List ℕ → Graph
-graphOf n t = byTable n t
+graphOf n t = lent n t .graph
 
 -- u is joined to v and v is not joined to u, or the other way round
 abbrev pub differ : Graph → ℕ → ℕ → Bool

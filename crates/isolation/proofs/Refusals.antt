@@ -7,25 +7,18 @@ use lib.Dec.{ltb, eqb}
 use borrow.Author.Tests.{ltb-false}
 use Rattle.model.specs.Groups.{Settings}
 use Rattle.model.specs.Calls.{refuse, refuseSettings}
-use Rattle.theory.proofs.basics.Gates.{Gate, gate-one, gate-then}
+use Rattle.theory.proofs.basics.Refusals.{refuse-pass}
 use Rattle.theory.proofs.basics.Tests.{or-second}
-use Rattle.theory.proofs.calls.PageAccepted.{refuse-pass}
 
+-- the refusal number of settings by the outcome of each test
 pub settings-by : (s : Settings) {a b d : Bool} → ltb 2 (s .notion) ≡ a → ltb 1 (s .kind) ≡ b → (eqb (s .factor) 0 || ltb 1024 (s .factor)) ≡ d
-    → refuse 6 a (refuse 7 b (refuse 8 d 0)) ≡ refuseSettings s 0
+    → refuse 6 a (refuse 7 b (refuse 8 d 0)) ≡ refuseSettings s
 unfolding refuseSettings
 settings-by s p q r = rw (p, q, r)
 
-module _ (s : Settings) where
-  -- the later tests decide where the settings are accepted, and the settings decide where they are not
-  pub settings-gate : Gate (refuseSettings s)
-  unfolding refuseSettings
-  settings-gate =
-      gate-then (refuse 6 _) _ (gate-one 5 (ltb 2 (s .notion)))
-      (gate-then (refuse 7 _) _ (gate-one 6 (ltb 1 (s .kind))) (gate-one 7 (eqb (s .factor) 0 || ltb 1024 (s .factor))))
-
-  pub factor-small : refuseSettings s 0 ≡ 0 → s .factor ≤ 1024
-  unfolding refuseSettings
-  factor-small h =
-      let kind = refuse-pass 6 _ _ (refuse-pass 5 _ _ h .1) in
-      ltb-false 1024 (s .factor) (or-second (eqb (s .factor) 0) _ (refuse-pass 7 _ _ (kind .1) .0))
+-- settings that are not refused have a factor of at most 1,024
+pub factor-small : (s : Settings) → refuseSettings s ≡ 0 → s .factor ≤ 1024
+unfolding refuseSettings
+factor-small s h =
+    let kind = refuse-pass 6 _ _ (refuse-pass 5 _ _ h .1) in
+    ltb-false 1024 (s .factor) (or-second (eqb (s .factor) 0) _ (refuse-pass 7 _ _ (kind .1) .0))

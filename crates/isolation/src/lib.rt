@@ -23,7 +23,7 @@ pub struct Tally {
 
 // The refusal number of any settings: 6 to 8 of document 01, "Turned back by the input", lowest number first, and 0 where all three tests pass.
 pub fn settings_refusal(s: Settings) -> u32
-    ensures { λ r. ⌜ r ≡ refuseSettings (settingsOf s) 0 ⌝ }
+    ensures { λ r. ⌜ r ≡ refuseSettings (settingsOf s) ⌝ }
 {
     if 2 < s.notion {
         return 6;

@@ -6,8 +6,8 @@ use mathlib.Core.Bool.{Bool}
 use mathlib.Core.List.{List}
 use lib.ListN.{length, drop}
 use Rattle.model.specs.Groups.{VertexSet}
-use Rattle.model.specs.Meaning.{Clique}
-use Rattle.theory.specs.Search.{Loopless, Symmetric, Candidates}
+use Rattle.model.specs.Meaning.{Clique, Loopless, Symmetric}
+use Rattle.theory.specs.Search.{Candidates}
 use Rattle.graph.specs.Table.{TableFits, graphOf}
 use Rattle.ranks.specs.Ranks.{RanksFit, HoldsDegrees}
 use Rattle.isolation.specs.declared.Settings.{Settings}

@@ -10,26 +10,28 @@ use lib.ListN.{length, take, replicate}
 use borrow.Author.Tests.{eqb-true, eqb-false}
 use Rattle.model.specs.Groups.{Settings}
 use Rattle.model.specs.Walk.{Position, Rules, fresh, finished, page, stoppedFinished}
-use Rattle.model.specs.Listing.{rules}
-use Rattle.model.specs.Calls.{refuseTable, refuseSettings, refusePage, PageReply, pageCall}
+use Rattle.model.specs.Listing.{rules, recordLength}
+use Rattle.model.specs.Calls.{refuseSettings, refusePage, PageReply, replyTo}
 use Rattle.model.specs.Demand.{leftAt, allSteps, allGroups, SomeFinished, Demand3, PageBounds}
 use Rattle.model.specs.Program.{held, endLine, programVerdict, listing, Prints}
 use Rattle.theory.specs.Replies.{Replied, Chain}
 use Rattle.theory.specs.Printed.{printedPages}
 use Rattle.theory.proofs.basics.Tests.{fails}
 use Rattle.theory.proofs.walk.Remaining.{Fit, fresh-fit}
-use Rattle.theory.proofs.walk.Walk.{after-valid}
+use Rattle.theory.proofs.walk.Lawful.{lawful}
+use Rattle.theory.proofs.walk.Walk.{Lawful, after-valid}
 use Rattle.theory.proofs.walk.Ends.{weight, stretch-falls}
-use Rattle.theory.proofs.calls.Pages.{replied, page-does, went-finished, chain-demand, table-lawful, call-progress}
+use Rattle.theory.proofs.calls.Pages.{replied, page-does, went-finished, chain-demand, call-progress}
 use Rattle.theory.proofs.calls.Next.{demand-accepted}
 use Rattle.theory.proofs.program.Printed.{held-add}
 use Rattle.theory.proofs.program.Program.{all-groups, pages-listed, pages-print}
-use Rattle.graph.specs.Table.{graphOf}
+use Rattle.graph.specs.Table.{lent, graphOf}
+use Rattle.graph.proofs.Refusals.{lent-simple}
 use Rattle.rounds.specs.declared.PageAnswer.{PageAnswer}
 use Rattle.rounds.specs.Answer.{PageReplies}
 use Rattle.listing.specs.declared.PageDone.{PageDone}
 use Rattle.listing.specs.declared.totals.Totals.{Totals}
-use Rattle.listing.specs.List.{turnReply, Turned, Paged, Ran}
+use Rattle.listing.specs.List.{turnCall, turnReply, Turned, Paged, Ran}
 
 -- ---- one page
 
@@ -85,7 +87,7 @@ pub paged-none : {n : ℕ} {t : List ℕ} {s : Settings} {p : Position} → p �
 unfolding leftAt allGroups allSteps
 paged-none e = record { replies = []; chain = tt; left = sym e; all-groups = refl; all-steps = refl }
 
-module _ {n : ℕ} {t : List ℕ} {s : Settings} (valid : refuseTable n t 0 ≡ 0) (proper : refuseSettings s 0 ≡ 0) {p : Position} {g k : ℕ}
+module _ {n : ℕ} {t : List ℕ} {s : Settings} (valid : lent n t .fault ≡ 0) (proper : refuseSettings s ≡ 0) {p : Position} {g k : ℕ}
     (paged : Paged n t s p g k) (out : List ℕ) (work : ℕ) (room : 8 * n ≤ work) where
   abbrev R : Rules
   R = rules (graphOf n t) s
@@ -93,18 +95,21 @@ module _ {n : ℕ} {t : List ℕ} {s : Settings} (valid : refuseTable n t 0 ≡ 
   abbrev reply : PageReply
   reply = turnReply n t s p out work
 
+  law : Lawful R n
+  law = lawful (graphOf n t) (lent-simple n t valid .loopless) s
+
   demand : Demand3 R n (paged .replies)
-  demand = chain-demand R n (table-lawful n t s valid) (paged .replies) (paged .chain)
+  demand = chain-demand R n law (paged .replies) (paged .chain)
 
   -- the next page is accepted
   accepted : reply .refused ≡ 0
   accepted =
       subst (λ (q : Position). turnReply n t s q out work .refused ≡ 0) (paged .left)
-      (demand-accepted n t s valid proper (paged .replies) demand 4294967295 out work room)
+      (demand-accepted (turnCall n t s out work) (record { no-fault = valid; simple = lent-simple n t valid; proper = proper; enough = room }) (paged .replies) demand)
 
   answered : Replied R p reply
-  unfolding pageCall
-  answered = replied R (refusePage n t s p work) (page R 4294967295 (length out) p) p out (λ z. page-does R 4294967295 (length out) p)
+  unfolding replyTo
+  answered = replied R (refusePage (lent n t) s p work) (page R 4294967295 (length out) p) p out (λ z. page-does R 4294967295 (length out) p)
 
   paged-more : Paged n t s (reply .position) (held (g + reply .groups)) (held (k + reply .steps))
   paged-more =
@@ -129,7 +134,7 @@ module _ {n : ℕ} {t : List ℕ} {s : Settings} (valid : refuseTable n t 0 ≡ 
         full-groups = paged-more .all-groups ∙ ap (λ (a : ℕ). held a) (all-groups s n t valid (paged-more .replies) (paged-more .chain) ended);
         full-steps = (
           allSteps (paged-more .replies),
-          chain-demand R n (table-lawful n t s valid) (paged-more .replies) (paged-more .chain) .whole ended .1,
+          chain-demand R n law (paged-more .replies) (paged-more .chain) .whole ended .1,
           paged-more .all-steps,
         );
       }
@@ -138,10 +143,10 @@ module _ {n : ℕ} {t : List ℕ} {s : Settings} (valid : refuseTable n t 0 ≡ 
       ended = ended-more (paged .replies) reply accepted e
 
   -- where it does not say Finished, the walk was not finished, and so it makes a step
-  paged-falls : reply .stop ≢ stoppedFinished → n + 1 ≤ length out → weight n (reply .position) < weight n p
+  paged-falls : reply .stop ≢ stoppedFinished → recordLength n ≤ length out → weight n (reply .position) < weight n p
   paged-falls d l =
       subst (λ (q : Position). weight n q < weight n p) (answered .0 .to)
-      (stretch-falls R n (table-lawful n t s valid) (reply .steps) p fit (call-progress n t s 4294967295 p out work accepted unfinished (omega arith) l) (answered .0 .walking))
+      (stretch-falls R n law (reply .steps) p fit (call-progress (turnCall n t s out work) p accepted unfinished (omega arith) l) (answered .0 .walking))
     where
       unfinished : finished p ≡ false
       unfinished = fails (finished p) (λ f. d (answered .1 accepted .1 (went-finished R p _ _ _ _ (answered .0) f)))
@@ -149,7 +154,7 @@ module _ {n : ℕ} {t : List ℕ} {s : Settings} (valid : refuseTable n t 0 ≡ 
       fit : Fit n p
       fit =
           subst (λ (q : Position). Fit n q) (sym (demand .reached) ∙ paged .left)
-          (after-valid R n (table-lawful n t s valid) (allSteps (paged .replies)) (fresh n) (fresh-fit n))
+          (after-valid R n law (allSteps (paged .replies)) (fresh n) (fresh-fit n))
 
   -- ---- the same by what a turn leaves
 
@@ -169,7 +174,7 @@ module _ {n : ℕ} {t : List ℕ} {s : Settings} (valid : refuseTable n t 0 ≡ 
       turned-ran e =
           subst₂ (λ (x y : ℕ). Ran n t s (record { groups = x; steps = y })) same-groups same-steps (paged-ran (eqb-true _ 1 (sym (turned .finished) ∙ e)))
 
-    pub turned-falls : r .finished ≡ false → n + 1 ≤ length out → weight n left < weight n p
+    pub turned-falls : r .finished ≡ false → recordLength n ≤ length out → weight n left < weight n p
     turned-falls e l = subst (λ (q : Position). weight n q < weight n p) (sym (turned .position)) (paged-falls (eqb-false _ 1 (sym (turned .finished) ∙ e)) l)
 
 -- What the listing writes page by page, and its end line, are what the program prints.

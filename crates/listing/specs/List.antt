@@ -8,20 +8,24 @@ use lib.ListN.{length, take}
 use lib.Dec.{eqb}
 use Rattle.model.specs.Groups.{Settings}
 use Rattle.model.specs.Walk.{Position, fresh, lasts, fullSets, stoppedFinished}
-use Rattle.model.specs.Listing.{rules}
-use Rattle.model.specs.Calls.{refuseTable, refuseSettings, PageReply, pageCall}
+use Rattle.model.specs.Listing.{rules, recordLength}
+use Rattle.model.specs.Calls.{Call, refuseSettings, PageReply, replyTo}
 use Rattle.model.specs.Demand.{leftAt, allSteps, allGroups, SomeFinished}
 use Rattle.model.specs.Program.{groupLines, held}
 use Rattle.theory.specs.Replies.{Chain}
 use Rattle.theory.specs.Printed.{printed, printedPages}
-use Rattle.graph.specs.Table.{graphOf}
+use Rattle.graph.specs.Table.{lent, graphOf}
 use Rattle.listing.specs.declared.PageDone.{PageDone}
 use Rattle.listing.specs.declared.totals.Totals.{Totals}
 use Rattle.print.specs.Put.{Puts}
 
--- the reply to a page call with the largest budget
+-- a page call with the largest budget
+abbrev pub turnCall : ℕ → List ℕ → Settings → List ℕ → ℕ → Call
+turnCall n t s out work = record { lent = lent n t; settings = s; budget = 4294967295; output = out; work = work }
+
+-- the reply to it
 abbrev pub turnReply : ℕ → List ℕ → Settings → Position → List ℕ → ℕ → PageReply
-turnReply n t s p out work = pageCall n t s 4294967295 p out work
+turnReply n t s p out work = replyTo (turnCall n t s out work) p
 
 -- a page from p leaves its position, its numbers, and its used entries printed from the buffer's start on
 pub record Turned (n : ℕ) (t : List ℕ) (s : Settings) (p out : List ℕ) (work : ℕ) (bytes left printed' : List ℕ) (r : PageDone) : Type 0 where
@@ -33,18 +37,18 @@ pub record Turned (n : ℕ) (t : List ℕ) (s : Settings) (p out : List ℕ) (wo
 
 -- a graph's table and settings without fault, its fresh position, and room for any record, for the work and for what is printed
 pub record ListBegins (n : ℕ) (t : List ℕ) (s : Settings) (p out work bytes : List ℕ) : Type 0 where
-  pub table : refuseTable n t 0 ≡ 0
-  pub settings : refuseSettings s 0 ≡ 0
+  pub no-fault : lent n t .fault ≡ 0
+  pub settings : refuseSettings s ≡ 0
   pub start : p ≡ fresh n
-  pub output : n + 1 ≤ length out
+  pub output : recordLength n ≤ length out
   pub room : 8 * n ≤ length work
   pub buffer : 6 * length out ≤ length bytes
 
 -- a graph of at most 256 vertices whose table has no fault, with settings that have none
 pub record Listable (n : ℕ) (t : List ℕ) (s : Settings) : Type 0 where
   pub few : n ≤ 256
-  pub table : refuseTable n t 0 ≡ 0
-  pub settings : refuseSettings s 0 ≡ 0
+  pub no-fault : lent n t .fault ≡ 0
+  pub settings : refuseSettings s ≡ 0
 
 -- replies to page calls, from fresh to the position p, with their totals held
 pub record Paged (n : ℕ) (t : List ℕ) (s : Settings) (p : Position) (groups steps : ℕ) : Type 0 where

@@ -12,8 +12,8 @@ use lib.Seq.{length-take-le, getD-take}
 use Rattle.model.specs.Below.{all}
 use Rattle.model.specs.Graph.{Graph, degree}
 use Rattle.model.specs.Groups.{VertexSet}
-use Rattle.model.specs.Meaning.{Clique}
-use Rattle.theory.specs.Search.{Symmetric, joinedAll, among, Members}
+use Rattle.model.specs.Meaning.{Clique, Symmetric}
+use Rattle.theory.specs.Search.{joinedAll, among, Members}
 use Rattle.theory.proofs.basics.Tests.{Test, test-all, test-self, trichotomy, fails}
 use Rattle.theory.proofs.search.Candidates.{joined-test}
 use Rattle.theory.proofs.search.Members.{tally-none, tally-next, tally-all}

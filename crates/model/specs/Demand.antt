@@ -6,27 +6,14 @@ use mathlib.Core.Bool.{true, false}
 use mathlib.Core.Logic.{_↔_, _≢_, _⊎_}
 use mathlib.Core.List.{List, [], _∷_, _++_, List·Memᴰ}
 use lib.ListN.{length, take, drop}
-use Rattle.model.specs.Graph.{byTable}
+use Rattle.model.specs.Graph.{Graph}
 use Rattle.model.specs.Groups.{Settings, VertexSet}
-use Rattle.model.specs.Meaning.{Qualifies}
+use Rattle.model.specs.Meaning.{Qualifies, Simple}
 use Rattle.model.specs.Walk.{Position, Rules, fresh, finished, after, lasts, records, fullSets, fullList, stoppedFinished}
-use Rattle.model.specs.Listing.{rules}
-use Rattle.model.specs.Calls.{refuseTable, PageReply, pageCall}
+use Rattle.model.specs.Listing.{rules, recordLength}
+use Rattle.model.specs.Calls.{Call, PageReply, replyTo}
 
 -- ---- calls and replies
-
--- what a page call brings beside the position
-pub record Call : Type 0 where
-  pub size : ℕ
-  pub table : List ℕ
-  pub settings : Settings
-  pub budget : ℕ
-  pub output : List ℕ
-  pub work : ℕ
-
--- the reply to a call that is handed the position p
-abbrev pub replyTo : Call → Position → PageReply
-replyTo c p = pageCall (c .size) (c .table) (c .settings) (c .budget) p (c .output) (c .work)
 
 -- the replies to calls of which the first is handed p, and each later one the position as the call before it left it
 unfoldable pub replies : List Call → Position → List PageReply
@@ -59,8 +46,8 @@ Each P [] p = Unit {0}
 Each P (c ∷ cs) p = P c p × Each P cs (replyTo c p .position)
 
 -- "Every accepted call brings this graph's table and this notion, kind and factor. A refused call may bring anything else beside the position."
-abbrev pub Agree : List ℕ → Settings → List Call → Position → Type 0
-Agree t s = Each (λ c p. replyTo c p .refused ≡ 0 → (c .table ≡ t) × (c .settings ≡ s))
+abbrev pub Agree : Graph → Settings → List Call → Position → Type 0
+Agree G s = Each (λ c p. replyTo c p .refused ≡ 0 → (c .lent .graph ≡ G) × (c .settings ≡ s))
 
 -- ---- the claim about a list of replies
 
@@ -107,7 +94,7 @@ pub record Demand3 (R : Rules) (n : ℕ) (rs : List PageReply) : Type 0 where
 
 -- "With budget 1 or more and output of n + 1 entries or more, a call on an unfinished walk makes at least one step." So does an accepted call.
 abbrev pub MakesStep : ℕ → Call → Position → Type 0
-MakesStep n c p = replyTo c p .refused ≡ 0 → finished p ≡ false → 1 ≤ c .budget → n + 1 ≤ length (c .output) → 1 ≤ replyTo c p .steps
+MakesStep n c p = replyTo c p .refused ≡ 0 → finished p ≡ false → 1 ≤ c .budget → recordLength n ≤ length (c .output) → 1 ≤ replyTo c p .steps
 
 -- a reply that did nothing: no output, groups or steps, and the position as it was
 pub record Idle (p : Position) (r : PageReply) : Type 0 where
@@ -120,18 +107,18 @@ pub record Idle (p : Position) (r : PageReply) : Type 0 where
 abbrev pub RefusedIdle : Call → Position → Type 0
 RefusedIdle c p = replyTo c p .refused ≢ 0 → Idle p (replyTo c p)
 
--- demand 3 of a list of page calls that is first handed fresh, on the graph of the table t with the settings s
-pub record DemandOf (n : ℕ) (t : List ℕ) (s : Settings) (cs : List Call) : Type 0 where
-  pub done : Demand3 (rules (byTable n t) s) n (replies cs (fresh n))
+-- demand 3 of a list of page calls that is first handed fresh, on the graph G with the settings s
+pub record DemandOf (G : Graph) (s : Settings) (cs : List Call) : Type 0 where
+  pub done : Demand3 (rules G s) (G .size) (replies cs (fresh (G .size)))
   -- "A page that says Finished with an empty list: demand 3 shuts it out, no output meaning no qualifying set."
-  pub none-qualifies : SomeFinished (replies cs (fresh n)) → joinedOutput (replies cs (fresh n)) ≡ [] → (S : VertexSet) → Qualifies (byTable n t) s S → ⊥
+  pub none-qualifies : SomeFinished (replies cs (fresh (G .size))) → joinedOutput (replies cs (fresh (G .size))) ≡ [] → (S : VertexSet) → Qualifies G s S → ⊥
   -- "A page that says Spent or Full having done no step: demand 3's last sentence."
-  pub makes-step : Each (MakesStep n) cs (fresh n)
-  pub refused-idle : Each RefusedIdle cs (fresh n)
+  pub makes-step : Each (MakesStep (G .size)) cs (fresh (G .size))
+  pub refused-idle : Each RefusedIdle cs (fresh (G .size))
 
--- demand 3 of a graph's table, one that is not refused, and of settings, for any list of calls
-abbrev pub Demanded : ℕ → List ℕ → Settings → Type 0
-Demanded n t s = refuseTable n t 0 ≡ 0 → (cs : List Call) → Agree t s cs (fresh n) → DemandOf n t s cs
+-- "Take a graph, a notion, a kind and a factor, and any list of page calls": demand 3 of a graph and settings, in whatever form each call is lent it
+abbrev pub Demanded : Graph → Settings → Type 0
+Demanded G s = Simple G → (cs : List Call) → Agree G s cs (fresh (G .size)) → DemandOf G s cs
 
 -- ---- each page call
 

@@ -3,7 +3,7 @@
 -- Assumes nothing.
 use Prim.Native.Nat.{ℕ}
 use mathlib.Core.Path.{_≡_}
-use mathlib.Core.Logic.{_⊎_}
+use mathlib.Core.Logic.{_≢_, _⊎_}
 use mathlib.Core.List.{List, [], _∷_}
 
 -- a fault: its number, and what it says
@@ -14,6 +14,11 @@ pub record Fault : Type 1 where
 -- the fault of number k that says P
 abbrev pub numbered : ℕ → Type 0 → Fault
 numbered k P = record { number = k; holds = P }
+
+-- every fault of the list has a number other than 0, since 0 is acceptance
+abbrev pub Numbers : List Fault → Type 0
+Numbers [] = Unit {0}
+Numbers (f ∷ fs) = (f .number ≢ 0) × Numbers fs
 
 -- "checked in this order": k is the number of the first fault that holds, and 0 where none does
 unfoldable pub FirstFault : List Fault → ℕ → Type 0

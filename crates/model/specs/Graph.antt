@@ -12,6 +12,12 @@ pub record Graph : Type 0 where
   pub size : ℕ
   pub joined : ℕ → ℕ → Bool
 
+-- A graph as a call is lent it, whatever holds it. A call goes by these two alone: the number of the first fault of what holds the graph, 0 where it
+-- has none, and the graph, whose size is the n that the call is given.
+pub record LentGraph : Type 0 where
+  pub fault : ℕ
+  pub graph : Graph
+
 -- u and v are vertices, and f says that they are joined. What is not a vertex is joined to nothing, so that two tables that agree on the
 -- vertices give one and the same graph
 unfoldable pub amongVertices : ℕ → (ℕ → ℕ → Bool) → ℕ → ℕ → Bool

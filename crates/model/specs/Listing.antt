@@ -1,6 +1,6 @@
 -- The rules of document 01 for the walk, the list and the page: the isolated cliques of a graph.
 -- Assumes nothing.
-use Prim.Native.Nat.{ℕ}
+use Prim.Native.Nat.{ℕ, _+_}
 use mathlib.Core.Bool.{Bool, _&&_, _||_, not}
 use mathlib.Core.List.{List, _∷_, map}
 use lib.ListN.{length, getD}
@@ -47,6 +47,10 @@ takenList G p = map (vertexAt G) (passing (G .size) (is 1 p))
 -- Document 01, "Which sets qualify": a set's record is its size and then its vertices in rank order
 unfoldable pub recordOf : Graph → Position → List ℕ
 recordOf G p = length (takenList G p) ∷ takenList G p
+
+-- the entries of the record of a set of k vertices
+abbrev pub recordLength : ℕ → ℕ
+recordLength k = k + 1
 
 -- the rules of a graph and settings
 abbrev pub rules : Graph → Settings → Rules

@@ -12,6 +12,20 @@ use Rattle.model.specs.Groups.{Factor, Settings, VertexSet, sizeOf, outs
 use Rattle.model.specs.Walk.{Position}
 use Rattle.model.specs.Listing.{takenSet}
 
+-- no vertex is joined to itself
+abbrev pub Loopless : Graph → Type 0
+Loopless G = (u : ℕ) → u < G .size → G .joined u u ≡ false
+
+-- two vertices are joined both ways or not at all
+abbrev pub Symmetric : Graph → Type 0
+Symmetric G = (u v : ℕ) → u < G .size → v < G .size → G .joined u v ≡ G .joined v u
+
+-- Document 01, "Graph and ranks": n is at most 1,024, the diagonal is 0 and the table is symmetric
+pub record Simple (G : Graph) : Type 0 where
+  pub bounded : G .size ≤ 1024
+  pub loopless : Loopless G
+  pub symmetric : Symmetric G
+
 -- Document 01, "Graph and ranks": every vertex has a rank of its own below n, a lower rank has no larger degree, and equal degrees go by smaller
 -- vertex number
 pub record Ranked (G : Graph) : Type 0 where

@@ -33,7 +33,7 @@ three (some a) none c = wrong 32
 three (some a) (some b) none = wrong 32
 three (some a) (some b) (some c) =
     let s = settings a b c in
-    bounded (refuseSettings s 0) s
+    bounded (refuseSettings s) s
 
 -- notion, kind and c: 32 their count and the form of a number, then 6, 7, 8
 unfoldable pub settingsOfWords : List (List ℕ) → Words

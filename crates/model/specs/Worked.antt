@@ -11,7 +11,7 @@ use Rattle.model.specs.Groups.{Settings, settings, isolatedClique}
 use Rattle.model.specs.Walk.{Position, fresh, lasts, fullList}
 use Rattle.model.specs.Listing.{rules}
 use Rattle.model.specs.Text.{readText}
-use Rattle.model.specs.Calls.{refuseSettings, refusePage, PageReply, pageCall, byBytes, QueryReply, query}
+use Rattle.model.specs.Calls.{byteTable, refuseSettings, refusePage, PageReply, pageCall, byBytes, QueryReply, query}
 
 -- the full list has these entries, and the walk this length
 abbrev pub Gives : Graph → Settings → List ℕ → ℕ → Type 0
@@ -62,9 +62,9 @@ pub record Worked : Type 0 where
   pub K9-spent : (x work : ℕ) → 32 ≤ work →
       pageCall 4 clawTable (settings 2 0 2) 7 (fresh 4) (x ∷ []) work ≡ wroteNothing 2 7 0 (1 ∷ 2 ∷ 2 ∷ 2 ∷ []) (x ∷ [])
   pub K10 : (notion kind c work : ℕ) → notion ≤ 2 → kind ≤ 1 → 1 ≤ c → c ≤ 1024 → 32 ≤ work →
-      (refusePage 4 clawTable (settings notion kind c) (1 ∷ 1 ∷ 0 ∷ 0 ∷ []) work ≡ 0)
-      × (refusePage 4 clawTable (settings notion kind c) (1 ∷ 1 ∷ 1 ∷ 0 ∷ []) work ≡ 23)
-      × (refusePage 4 clawTable (settings notion kind c) (0 ∷ 1 ∷ 0 ∷ 0 ∷ []) work ≡ 22)
+      (refusePage (byteTable 4 clawTable) (settings notion kind c) (1 ∷ 1 ∷ 0 ∷ 0 ∷ []) work ≡ 0)
+      × (refusePage (byteTable 4 clawTable) (settings notion kind c) (1 ∷ 1 ∷ 1 ∷ 0 ∷ []) work ≡ 23)
+      × (refusePage (byteTable 4 clawTable) (settings notion kind c) (0 ∷ 1 ∷ 0 ∷ 0 ∷ []) work ≡ 22)
 
 -- K11's graph: triangle 0, 1, 2 with leaves 3, 4 on 1 and 5, 6 on 2
 abbrev pub twoStems : Graph
@@ -121,7 +121,7 @@ pub record Pinned (x : ℕ) : Type 0 where
       onClaw 8 (1 ∷ 1 ∷ 1 ∷ 0 ∷ []) (x ∷ [])
       ≡ record { refused = 23; stop = 0; groups = 0; used = 0; steps = 0; wanted = 0; position = 1 ∷ 1 ∷ 1 ∷ 0 ∷ []; output = x ∷ [] }
   -- "c 1,024 passes, 1,025 is 8"
-  pub factor : (refuseSettings (settings 2 0 1024) 0 ≡ 0) × (refuseSettings (settings 2 0 1025) 0 ≡ 8)
+  pub factor : (refuseSettings (settings 2 0 1024) ≡ 0) × (refuseSettings (settings 2 0 1025) ≡ 8)
   -- K11, max, kind 0, c 3: {0} is not maximal, since the triangle is isolated, though {0, 1} isn't isolated
   pub K11 : fullList (rules twoStems (settings 2 0 3)) 7 ≡ (1 ∷ 3 ∷ 1 ∷ 4 ∷ 1 ∷ 5 ∷ 1 ∷ 6 ∷ 3 ∷ 0 ∷ 1 ∷ 2 ∷ [])
   pub K11-pair : isolatedClique twoStems 2 3 (byBytes (1 ∷ 1 ∷ [])) ≡ false

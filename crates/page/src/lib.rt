@@ -1,14 +1,11 @@
 // The page call: what it is handed is tested, and then the walk goes on from the position it holds, with its groups put into the output.
 ghost use mathlib.Core.Path.{_≡_};
-ghost use lib.ListN.{length};
-ghost use Rattle.model.specs.Calls.{refuseTable, refuseSettings, refuseLengths};
 ghost use Rattle.model.specs.Groups.{settings};
-ghost use Rattle.isolation.specs.Numbers.{settingsOf};
+ghost use Rattle.graph.specs.Table.{lent};
 ghost use Rattle.rounds.specs.Answer.{refused};
 ghost use Rattle.page.specs.Call.{PageCalled};
-use graph::table_refusal;
+use input::input_refusal;
 use isolation::Settings;
-use isolation::settings_refusal;
 use position::position_refusal;
 use ranks::prepare;
 use rounds::PageAnswer;
@@ -29,30 +26,6 @@ fn turned_back(number: u32) -> PageAnswer
     }
 }
 
-// The refusal number of what a call brings, before its position is looked into, and 0 where all these tests pass. Reads the table.
-// Document 01, "Turned back by the input": 1 to 5 of the table, 6 to 8 of the settings, 9 and 10 of two lengths, lowest number first.
-fn input_refusal(table: &[u8], n: usize, q: Settings, position: &[u8], work: &[u16]) -> u32
-    ensures { λ r. ⌜
-        r ≡ refuseTable n (now (table .entry)) (refuseSettings (settingsOf q) (refuseLengths n (now (position .entry)) (length (now (work .entry))) 0))
-        ⌝ }
-{
-    let a = table_refusal(table, n);
-    if a != 0 {
-        return a;
-    }
-    let b = settings_refusal(q);
-    if b != 0 {
-        return b;
-    }
-    if position.len() != n {
-        return 9;
-    }
-    if work.len() < 8 * n {
-        return 10;
-    }
-    0
-}
-
 // The page call, of any arguments. A refused call leaves the position, the output and the work slice as they were; an accepted one walks on from the
 // position, at most as many steps as the budget has, and puts the groups that it passes into the output.
 // Document 01, "Turned back by the state": 21 to 23 are tested after 1 to 10, so the work slice is not written before all of them have passed.
@@ -68,7 +41,7 @@ pub fn page(
     budget: u32,
 ) -> PageAnswer
     ensures { λ r. ⌜
-        PageCalled n (now (table .entry)) (settings notion kind c) budget (now (position .entry)) (now (output .entry)) (now (work .entry))
+        PageCalled (lent n (now (table .entry))) (settings notion kind c) budget (now (position .entry)) (now (output .entry)) (now (work .entry))
         r (now (position .exit)) (now (output .exit)) (now (work .exit))
         ⌝ }
 {
@@ -77,7 +50,7 @@ pub fn page(
         kind,
         factor: c,
     };
-    let a = input_refusal(table, n, q, position, work);
+    let a = input_refusal(table, n, q, position.len(), work.len());
     if a != 0 {
         return turned_back(a);
     }

@@ -14,10 +14,10 @@ use lib.Seq.{take-suc, take-length}
 use borrow.Author.Tests.{eqb-false, eq-eqb}
 use Rattle.model.specs.Graph.{Graph, degree, rankOf, vertexAt}
 use Rattle.model.specs.Groups.{Settings, VertexSet, sizeOf}
-use Rattle.model.specs.Meaning.{In, Clique}
+use Rattle.model.specs.Meaning.{In, Clique, Loopless, Symmetric}
 use Rattle.model.specs.Walk.{Position, has, found, due}
 use Rattle.model.specs.Listing.{is, adjacent, pivot, apart, takenSet, takenList, recordOf, rules}
-use Rattle.theory.specs.Search.{Loopless, Symmetric, common, Tally, degreeSum, leastDegree, largestDegree, isolatedBy, joinedAll, Listed, among, Members, Candidates, beaten}
+use Rattle.theory.specs.Search.{common, Tally, degreeSum, leastDegree, largestDegree, isolatedBy, joinedAll, Listed, among, Members, Candidates, beaten}
 use Rattle.theory.proofs.basics.Tests.{test-and, test-self, fails, passes-or-fails, trichotomy}
 use Rattle.theory.proofs.graph.Ranks.{rank-below, rank-once, rank-degree, vertex-at, vertex-of}
 use Rattle.theory.proofs.graph.Meaning.{qualifies-iff}

@@ -13,12 +13,12 @@ use Rattle.model.specs.Below.{bit, count}
 use Rattle.model.specs.Graph.{Graph, degree, vertexAt}
 use Rattle.model.specs.Walk.{Position, has, found}
 use Rattle.model.specs.Listing.{is, adjacent, pivot, apart, takenSet, takenList, rules}
-use Rattle.theory.specs.Search.{Loopless, Symmetric, Candidates}
+use Rattle.model.specs.Meaning.{Loopless, Symmetric}
+use Rattle.theory.specs.Search.{Candidates}
 use Rattle.theory.proofs.basics.Tests.{test-and, test-self, fails}
 use Rattle.theory.proofs.basics.Passing.{passing-listed}
 use Rattle.theory.proofs.basics.PassingParts.{passing-count}
 use Rattle.graph.proofs.Table.{table-size}
-use Rattle.graph.proofs.Refusals.{table-accepted}
 use Rattle.isolation.specs.declared.Settings.{Settings}
 use Rattle.isolation.specs.declared.Tally.{Tally}
 use Rattle.isolation.specs.Numbers.{settingsOf, isolatedOf, beatenOf, TallyOf}
@@ -106,10 +106,10 @@ module _ {n : ℕ} {t ranks w : List ℕ} {q : Settings} {s : State} (a : Asks n
   h₀ = a .stands .1
 
   loopless : Loopless G
-  loopless = table-accepted n t (a .accepted) .no-loop
+  loopless = a .simple .loopless
 
   symmetric : Symmetric G
-  symmetric = table-accepted n t (a .accepted) .both-ways
+  symmetric = a .simple .symmetric
 
   pub taken-few : s .taken ≤ n
   taken-few = let z = table-size n t in let b = h₀ .bound in let c = h₀ .taken-bound in omega arith

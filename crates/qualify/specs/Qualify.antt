@@ -6,9 +6,9 @@ use mathlib.Core.Bool.{Bool, cond}
 use mathlib.Core.List.{List, [], _∷_, map}
 use lib.ListN.{length, getD}
 use Rattle.model.specs.Graph.{Graph, degree, vertexAt}
+use Rattle.model.specs.Meaning.{Simple}
 use Rattle.model.specs.Walk.{Position, found}
 use Rattle.model.specs.Listing.{takenList, rules}
-use Rattle.model.specs.Calls.{refuseTable}
 use Rattle.theory.specs.Search.{joinedAll}
 use Rattle.ranks.specs.Ranks.{HoldsRanks}
 use Rattle.isolation.specs.declared.Settings.{Settings}
@@ -72,10 +72,10 @@ pub record TallyFits (n : ℕ) (ranks w : List ℕ) (s : State) : Type 0 where
   pub few : s .taken ≤ n
   pub vertices : HoldsVertices n w n (s .taken)
 
--- what `qualifies` asks for: an accepted table with its ranks, a factor that is not refused, and a state that stands for a position
+-- what `qualifies` asks for: the table of a graph of document 01 with its ranks, a factor that is not refused, and a state that stands for a position
 pub record Asks (n : ℕ) (t ranks w : List ℕ) (q : Settings) (s : State) : Type 0 where
   pub ranked : HoldsRanks n t ranks
-  pub accepted : refuseTable n t 0 ≡ 0
+  pub simple : Simple (graphOf n t)
   pub factor : q .factor ≤ 1024
   pub stands : StandsForOne (graphOf n t) w s
 

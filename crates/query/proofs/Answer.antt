@@ -7,8 +7,9 @@ use mathlib.Core.List.{List}
 use mathlib.Core.Logic.{_≢_}
 use lib.ListN.{length}
 use Rattle.model.specs.Below.{bit}
+use Rattle.model.specs.Graph.{LentGraph}
 use Rattle.model.specs.Groups.{settings}
-use Rattle.model.specs.Calls.{refuseQuery, queryReply, query}
+use Rattle.model.specs.Calls.{refuseQuery, queryReply, answerTo}
 use Rattle.query.specs.Query.{Decided, Answers}
 
 -- the parts of a reply by the refusal number
@@ -26,26 +27,26 @@ reply-yes : (k : ℕ) (q : Bool) → k ≡ 0 → queryReply k q .yes ≡ q
 unfolding queryReply
 reply-yes k q e = rw e
 
-module _ {n : ℕ} {t bs w : List ℕ} {notion kind c : ℕ} where
+module _ {L : LentGraph} {bs w : List ℕ} {notion kind c : ℕ} where
   -- refused: its number, no, and the work slice as it was
-  pub answer-refused : (r : ℕ) → r ≡ refuseQuery n t (settings notion kind c) bs (length w) → r ≢ 0 → Answers n t bs w w notion kind c (record { refusal = r; yes = 0 })
-  unfolding query
+  pub answer-refused : (r : ℕ) → r ≡ refuseQuery L (settings notion kind c) bs (length w) → r ≢ 0 → Answers L bs w w notion kind c (record { refusal = r; yes = 0 })
+  unfolding answerTo
   answer-refused r e d =
       record {
         refused = e ∙ sym (reply-refused _ _);
-        yes = ap bit (sym (reply-no (refuseQuery n t (settings notion kind c) bs (length w)) _ (λ q. d (e ∙ q))));
+        yes = ap bit (sym (reply-no (refuseQuery L (settings notion kind c) bs (length w)) _ (λ q. d (e ∙ q))));
         length-kept = refl;
         unchanged = λ q. refl;
       }
 
   -- accepted: what the set's test says
-  pub answer-decided : {w₁ : List ℕ} {b : Bool} → refuseQuery n t (settings notion kind c) bs (length w) ≡ 0 → Decided n t bs w w₁ (settings notion kind c) b
-      → (y : ℕ) → y ≡ bit b → Answers n t bs w w₁ notion kind c (record { refusal = 0; yes = y })
-  unfolding query
+  pub answer-decided : {w₁ : List ℕ} {b : Bool} → refuseQuery L (settings notion kind c) bs (length w) ≡ 0 → Decided (L .graph) bs w w₁ (settings notion kind c) b
+      → (y : ℕ) → y ≡ bit b → Answers L bs w w₁ notion kind c (record { refusal = 0; yes = y })
+  unfolding answerTo
   answer-decided e d y f =
       record {
         refused = sym (reply-refused _ _ ∙ e);
-        yes = f ∙ ap bit (d .answer ∙ sym (reply-yes (refuseQuery n t (settings notion kind c) bs (length w)) _ e));
+        yes = f ∙ ap bit (d .answer ∙ sym (reply-yes (refuseQuery L (settings notion kind c) bs (length w)) _ e));
         length-kept = d .length-kept;
         unchanged = λ q. absurd (q refl);
       }

@@ -10,9 +10,9 @@ use lib.ListN.{length, getD}
 use Rattle.model.specs.Below.{passing}
 use Rattle.model.specs.Graph.{Graph}
 use Rattle.model.specs.Groups.{VertexSet, sizeOf, qualifies}
-use Rattle.model.specs.Meaning.{Clique}
+use Rattle.model.specs.Meaning.{Clique, Loopless, Symmetric}
 use Rattle.model.specs.Listing.{is}
-use Rattle.theory.specs.Search.{Loopless, Symmetric, common, joinedAll, Members, Candidates}
+use Rattle.theory.specs.Search.{common, joinedAll, Members, Candidates}
 use Rattle.model.specs.Calls.{byBytes}
 use Rattle.theory.proofs.basics.Tests.{Test, fails}
 use Rattle.theory.proofs.basics.Counting.{count-sub, count-all, count-split}
@@ -27,6 +27,7 @@ use Rattle.graph.proofs.Table.{table-size}
 use Rattle.isolation.specs.declared.Settings.{Settings}
 use Rattle.isolation.specs.declared.Tally.{Tally}
 use Rattle.isolation.specs.Numbers.{settingsOf, Small, isolatedOf, beatenOf, TallyOf}
+use Rattle.input.proofs.Refusals.{InputPassed}
 use Rattle.theory.specs.Parts.{part, Filled}
 use Rattle.larger.specs.Search.{Lent, Posed, Tested}
 use Rattle.members.specs.Members.{HoldsMembers, pairwise, Tallies}
@@ -34,7 +35,7 @@ use Rattle.query.specs.Query.{QueryReady, Decided}
 use Rattle.theory.proofs.basics.Parts.{part-length, part-at}
 use Rattle.graph.specs.Table.{graphOf}
 use Rattle.members.proofs.Listed.{clique-test}
-use Rattle.query.proofs.Refusals.{QueryAccepted, query-accepted}
+use Rattle.query.proofs.Refusals.{query-accepted}
 
 -- the vertices that pass a set's test are its members
 passing-members : (G : Graph) (S : VertexSet) → Members G S (passing (G .size) S)
@@ -64,22 +65,22 @@ module _ {n : ℕ} {t ranks bs w₀ : List ℕ} {s : Settings} (ready : QueryRea
   abbrev members : VertexSet
   members = byBytes bs
 
-  pub accepted : QueryAccepted n t s bs w₀
-  accepted = query-accepted n t s bs w₀ (ready .accepted)
+  pub accepted : InputPassed n t (settingsOf s) (length bs) (length w₀)
+  accepted = query-accepted n t (settingsOf s) bs (length w₀) (ready .accepted)
 
   loopless : Loopless graph
-  loopless u h = let z = table-size n t in accepted .table .no-loop u (omega arith)
+  loopless = accepted .simple .loopless
 
   symmetric : Symmetric graph
-  symmetric u v h l = let z = table-size n t in accepted .table .both-ways u v (omega arith) (omega arith)
+  symmetric = accepted .simple .symmetric
 
   pub work-fits : RanksFit n w₀
-  work-fits = record { small = accepted .table .fits .small; parts = let r = accepted .room in omega arith }
+  work-fits = record { small = accepted .fits .small; parts = let r = accepted .enough in omega arith }
 
   -- after the members were written
   module _ {w₁ : List ℕ} {k : ℕ} (wrote : Filled n (n + n) (passing n (is 1 bs)) w₀ w₁ k × (k ≤ n)) where
     long : 8 * n ≤ length w₁
-    long = let r = accepted .room in omega arith
+    long = let r = accepted .enough in omega arith
 
     long-members : length (part w₁ n k) ≡ k
     long-members = let l = long in part-length w₁ n k (omega arith)
@@ -102,15 +103,15 @@ module _ {n : ℕ} {t ranks bs w₀ : List ℕ} {s : Settings} (ready : QueryRea
               omega arith;
         }
 
-    decided : {r : Bool} → r ≡ qualifies graph (settingsOf s) members → Decided n t bs w₀ w₁ (settingsOf s) r
+    decided : {r : Bool} → r ≡ qualifies graph (settingsOf s) members → Decided graph bs w₀ w₁ (settingsOf s) r
     decided e = record { answer = e; length-kept = wrote .0 .kept .length-kept }
 
     -- a set that is no clique does not qualify
-    not-clique : (Clique graph members → ⊥) → Decided n t bs w₀ w₁ (settingsOf s) false
+    not-clique : (Clique graph members → ⊥) → Decided graph bs w₀ w₁ (settingsOf s) false
     not-clique f = decided (sym (fails (qualifies graph (settingsOf s) members) (λ q. f (qualifies-iff graph (settingsOf s) members .0 q .isolated-clique .clique))))
 
     -- no member
-    pub decide-empty : k ≡ 0 → Decided n t bs w₀ w₁ (settingsOf s) false
+    pub decide-empty : k ≡ 0 → Decided graph bs w₀ w₁ (settingsOf s) false
     decide-empty e = not-clique (λ c. let m = has-members .complete _ (c .nonempty .1) .1 in let l = long-members in omega arith)
 
     -- pairwise joined, where there are members
@@ -118,7 +119,7 @@ module _ {n : ℕ} {t ranks bs w₀ : List ℕ} {s : Settings} (ready : QueryRea
     cliques some = clique-test graph symmetric members (part w₁ n k) has-members (let l = long-members in omega arith)
 
     -- two members that are not joined
-    pub decide-apart : k ≢ 0 → pairwise graph (part w₁ n k) ≡ false → Decided n t bs w₀ w₁ (settingsOf s) false
+    pub decide-apart : k ≢ 0 → pairwise graph (part w₁ n k) ≡ false → Decided graph bs w₀ w₁ (settingsOf s) false
     decide-apart some e = not-clique (λ c. true≢false (sym (cliques some .1 c) ∙ e))
 
     -- there are members, they are pairwise joined, and y has their numbers
@@ -142,7 +143,7 @@ module _ {n : ℕ} {t ranks bs w₀ : List ℕ} {s : Settings} (ready : QueryRea
             members =
                 let a = tally .members in
                 let b = both-fit graph members in
-                let d = accepted .table .fits .small in
+                let d = accepted .fits .small in
                 let z = table-size n t in
                 omega arith;
           }
@@ -152,7 +153,7 @@ module _ {n : ℕ} {t ranks bs w₀ : List ℕ} {s : Settings} (ready : QueryRea
           qualifies-tally graph loopless symmetric members clique vs A (y .members) (y .sum) (y .least) (y .largest) tally (settingsOf s)
 
       -- not isolated
-      pub decide-open : isolatedOf s y ≡ false → Decided n t bs w₀ w₁ (settingsOf s) false
+      pub decide-open : isolatedOf s y ≡ false → Decided graph bs w₀ w₁ (settingsOf s) false
       decide-open e =
           decided
           (sym (by-tally (passing (graph .size) (common graph members)) (passing-candidates graph members)
@@ -174,7 +175,7 @@ module _ {n : ℕ} {t ranks bs w₀ : List ℕ} {s : Settings} (ready : QueryRea
         pub beaten-asks : Lent n t ranks w₂ × Posed n t w₂ s y m
         beaten-asks =
             let l = long in (
-              record { table = accepted .table .fits; ranks-fit = ready .ranks-fit; degrees = ready .degrees; parts = omega arith },
+              record { table = accepted .fits; ranks-fit = ready .ranks-fit; degrees = ready .degrees; parts = omega arith },
               record {
                 set = members;
                 factor = accepted .factor;
@@ -194,7 +195,7 @@ module _ {n : ℕ} {t ranks bs w₀ : List ℕ} {s : Settings} (ready : QueryRea
             )
 
         -- an isolated clique qualifies where it is not beaten
-        pub decide-beaten : isolatedOf s y ≡ true → {w₃ : List ℕ} {r : Bool} → Tested n t w₂ w₃ s y m r → Decided n t bs w₀ w₃ (settingsOf s) (not r)
+        pub decide-beaten : isolatedOf s y ≡ true → {w₃ : List ℕ} {r : Bool} → Tested n t w₂ w₃ s y m r → Decided graph bs w₀ w₃ (settingsOf s) (not r)
         decide-beaten isolated tested =
             record {
               answer =

@@ -1,11 +1,12 @@
 // The set query.
 ghost use mathlib.Core.Path.{_≡_};
 ghost use Rattle.model.specs.Calls.{refuseQuery};
+ghost use Rattle.graph.specs.Table.{lent, graphOf};
 ghost use Rattle.isolation.specs.Numbers.{settingsOf};
 ghost use Rattle.query.specs.Query.{QueryReady, Decided, Answers};
+use input::input_refusal;
 use isolation::Settings;
 use isolation::isolated_by;
-use isolation::settings_refusal;
 use larger::beaten;
 use members::common_neighbours;
 use members::members_of;
@@ -22,22 +23,11 @@ pub struct SetAnswer {
 // The refusal number of a set query with a work slice of `length` entries: 1 to 11 of document 01, "Turned back by the input", lowest number first, and
 // 0 where all tests pass. Reads the table and the set.
 fn query_refusal(table: &[u8], set: &[u8], length: usize, n: usize, s: Settings) -> u32
-    ensures { λ r. ⌜ r ≡ refuseQuery n (now (table .entry)) (settingsOf s) (now (set .entry)) length ⌝ }
+    ensures { λ r. ⌜ r ≡ refuseQuery (lent n (now (table .entry))) (settingsOf s) (now (set .entry)) length ⌝ }
 {
-    let of_table = graph::table_refusal(table, n);
-    if of_table != 0 {
-        return of_table;
-    }
-    let of_settings = settings_refusal(s);
-    if of_settings != 0 {
-        return of_settings;
-    }
-    let wanted = 8 * n;
-    if set.len() != n {
-        return 9;
-    }
-    if length < wanted {
-        return 10;
+    let of_input = input_refusal(table, n, s, set.len(), length);
+    if of_input != 0 {
+        return of_input;
     }
     if graph::any_over(1, set) {
         return 11;
@@ -56,7 +46,7 @@ fn set_qualifies(
     s: Settings,
 ) -> bool
     requires { ⌜ QueryReady n (now table) (now ranks) (now set) (now work) s ⌝ }
-    ensures { λ r. ⌜ Decided n (now (table .entry)) (now (set .entry)) (now (work .entry)) (now (work .exit)) (settingsOf s) r ⌝ }
+    ensures { λ r. ⌜ Decided (graphOf n (now (table .entry))) (now (set .entry)) (now (work .entry)) (now (work .exit)) (settingsOf s) r ⌝ }
 {
     let k = members_of(set, n, work);
     if k == 0 {
@@ -84,7 +74,7 @@ pub fn set_query(
     kind: u32,
     c: u32,
 ) -> SetAnswer
-    ensures { λ r. ⌜ Answers n (now (table .entry)) (now (set .entry)) (now (work .entry)) (now (work .exit)) notion kind c r ⌝ }
+    ensures { λ r. ⌜ Answers (lent n (now (table .entry))) (now (set .entry)) (now (work .entry)) (now (work .exit)) notion kind c r ⌝ }
 {
     let s = Settings {
         notion,

@@ -15,7 +15,7 @@ use Rattle.model.specs.Program.{refusal, listing, reading, byReading, byWords, 
 use Rattle.model.specs.Calls.{refuseTable}
 use Rattle.theory.proofs.text.EdgeTextGraph.{read-table-accepted}
 use Rattle.theory.proofs.program.Program.{by-length, by-text, by-refusal, by-graph}
-use Rattle.graph.proofs.Refusals.{table-accepted}
+use Rattle.graph.proofs.Refusals.{table-fits}
 use Rattle.dimacs.specs.declared.TextAnswer.{TextAnswer}
 use Rattle.dimacs.specs.Reply.{TextReplies}
 use Rattle.request.specs.declared.verdict.Verdict.{Verdict}
@@ -49,12 +49,12 @@ module _ (text : List ℕ) {before table : List ℕ} (zeros : before ≡ replica
       }
 
   -- an accepted text leaves the table of a graph
-  read-accepted : a .refusal ≡ 0 → refuseTable (a .vertices) (take (a .vertices * a .vertices) table) 0 ≡ 0
+  read-accepted : a .refusal ≡ 0 → refuseTable (a .vertices) (take (a .vertices * a .vertices) table) ≡ 0
   read-accepted e =
-      ap₂ (λ (n : ℕ) (t : List ℕ). refuseTable n (take (n * n) t) 0) (replies .vertices) (replies .table) ∙ read-table-accepted text before (sym (replies .refusal) ∙ e)
+      ap₂ (λ (n : ℕ) (t : List ℕ). refuseTable n (take (n * n) t)) (replies .vertices) (replies .table) ∙ read-table-accepted text before (sym (replies .refusal) ∙ e)
 
   read-fits : a .refusal ≡ 0 → a .vertices * a .vertices ≤ length table
-  read-fits e = let w = table-accepted (a .vertices) (take (a .vertices * a .vertices) table) (read-accepted e) .fits .whole in let l = length-take (a .vertices * a .vertices) table in omega arith
+  read-fits e = let w = table-fits (a .vertices) (take (a .vertices * a .vertices) table) (read-accepted e) .whole in let l = length-take (a .vertices * a .vertices) table in omega arith
 
   -- its graph
   pub judged-graph : length table ≡ length before → a .refusal ≡ 0 → Judged text table (Listing (a .vertices))

@@ -45,7 +45,7 @@ no-third : (k l : ℕ) → three (some k) (some l) none ≡ wrong 32
 unfolding three
 no-third k l = refl
 
-all-three : (s : groups.Settings) → three (some (s .notion)) (some (s .kind)) (some (s .factor)) ≡ bounded (refuseSettings s 0) s
+all-three : (s : groups.Settings) → three (some (s .notion)) (some (s .kind)) (some (s .factor)) ≡ bounded (refuseSettings s) s
 unfolding three
 all-three s = refl
 
@@ -71,7 +71,7 @@ module _ {count : ℕ} {a b c : List ℕ} where
 
     -- three numbers
     module _ {x y z : ℕ} (p : some x ≡ numberOf a) (q : some y ≡ numberOf b) (r : some z ≡ numberOf c) {k : ℕ}
-        (e : k ≡ refuseSettings (record { notion = x; kind = y; factor = z }) 0) where
+        (e : k ≡ refuseSettings (record { notion = x; kind = y; factor = z })) where
       by-bounds : (words : List (List ℕ)) → (count ≡ 3 → words ≡ a ∷ b ∷ c ∷ []) → bounded k (record { notion = x; kind = y; factor = z }) ≡ settingsOfWords words
       by-bounds words w = ap (λ (m : ℕ). bounded m (record { notion = x; kind = y; factor = z })) e ∙ sym (all-three _) ∙ said p q r words w
 
@@ -82,5 +82,5 @@ module _ {count : ℕ} {a b c : List ℕ} where
       read-chosen d = record { says = λ words l w. sym (bounded-chosen k _ d) ∙ by-bounds words w; proper = sym e ∙ d }
 
 -- chosen settings have no fault
-pub chosen-proper : {count : ℕ} {a b c : List ℕ} {r : Words} {s : Settings} → r ≡ Chosen s → WordsRead count a b c r → refuseSettings (numbers.settingsOf s) 0 ≡ 0
+pub chosen-proper : {count : ℕ} {a b c : List ℕ} {r : Words} {s : Settings} → r ≡ Chosen s → WordsRead count a b c r → refuseSettings (numbers.settingsOf s) ≡ 0
 chosen-proper e w = subst Proper e (w .proper)

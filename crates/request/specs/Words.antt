@@ -17,7 +17,7 @@ wordsOf (Chosen s) = program.chosen (settingsOf s)
 -- chosen settings have no fault
 abbrev pub Proper : Words → Type 0
 Proper (Wrong k) = Unit {0}
-Proper (Chosen s) = refuseSettings (settingsOf s) 0 ≡ 0
+Proper (Chosen s) = refuseSettings (settingsOf s) ≡ 0
 
 -- any words of this count, which are a, b and c where they are three, say what the definition says
 pub record WordsRead (count : ℕ) (a b c : List ℕ) (r : Words) : Type 0 where

@@ -65,7 +65,7 @@ module _ {n : ℕ} {t ranks : List ℕ} {q : Settings} {budget : ℕ} {p₀ : Po
   asks =
       let l = output-long in
       let f = r .turn .used-fits in
-      (record { ranked = r .walking .ranked; accepted = r .walking .accepted; factor = r .factor; stands = (p, r .walking .stands) }, omega arith)
+      (record { ranked = r .walking .ranked; simple = r .walking .simple; factor = r .factor; stands = (p, r .walking .stands) }, omega arith)
 
   -- the budget is not spent
   pub more : steps ≢ budget → steps < budget
@@ -80,7 +80,7 @@ module _ {n : ℕ} {t ranks : List ℕ} {q : Settings} {budget : ℕ} {p₀ : Po
     -- the state still stands
     pub still-walking : Walking n (q .factor) t ranks p w₁ s
     still-walking =
-        record { accepted = r .walking .accepted; ranked = r .walking .ranked; stands = e .stands p (r .walking .stands); passes = r .walking .passes }
+        record { simple = r .walking .simple; ranked = r .walking .ranked; stands = e .stands p (r .walking .stands); passes = r .walking .passes }
 
     module _ {b : Bool} (f : SaysFinished n s b) (unfinished : b ≡ false) (unspent : steps ≢ budget) where
       -- it fits: each group is followed by a step
@@ -102,7 +102,7 @@ module _ {n : ℕ} {t ranks : List ℕ} {q : Settings} {budget : ℕ} {p₀ : Po
                   (m .position ∙ step-same n t q p) (at .written fits);
               walking =
                   record {
-                    accepted = r .walking .accepted;
+                    simple = r .walking .simple;
                     ranked = r .walking .ranked;
                     stands = subst⁻¹ (λ (x : Position). Stands (graphOf n t) x w₂ s₂) (m .position) (m .stands);
                     passes = subst⁻¹ (λ (x : Position). Passes (graphOf n t) (q .factor) x) (m .position) (m .passes);

@@ -2,6 +2,6 @@
 pub mod Parts
 pub mod Tests
 pub mod Counting
-pub mod Gates
+pub mod Refusals
 pub mod Passing
 pub mod PassingParts

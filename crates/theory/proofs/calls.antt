@@ -1,8 +1,9 @@
 -- Refusals, page calls and the set query.
 pub mod Fault
+pub mod TableFaults
 pub mod Faults
 pub mod DeadPosition
-pub mod PageAccepted
+pub mod Acceptance
 pub mod Bounds
 pub mod Next
 pub mod Pages

@@ -11,14 +11,6 @@ use Rattle.model.specs.Graph.{Graph, degree}
 use Rattle.model.specs.Groups.{Factor, VertexSet, within, sizeOf}
 use Rattle.model.specs.Meaning.{In}
 
--- no vertex is joined to itself: the table's diagonal is 0
-abbrev pub Loopless : Graph → Type 0
-Loopless G = (u : ℕ) → u < G .size → G .joined u u ≡ false
-
--- two vertices are joined both ways or not at all: the table is symmetric
-abbrev pub Symmetric : Graph → Type 0
-Symmetric G = (u v : ℕ) → u < G .size → v < G .size → G .joined u v ≡ G .joined v u
-
 -- v is joined to every member
 abbrev pub JoinsAll : Graph → VertexSet → ℕ → Type 0
 JoinsAll G S v = (u : ℕ) → In G S u → G .joined v u ≡ true

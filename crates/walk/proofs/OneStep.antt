@@ -13,8 +13,8 @@ use Rattle.model.specs.Walk.{Position, has, finished, advance, retreat, step}
 use Rattle.model.specs.Listing.{apart, dead}
 use Rattle.model.specs.Calls.{reopened, refusePosition}
 use Rattle.theory.proofs.walk.Walk.{step-down, step-up}
-use Rattle.theory.proofs.calls.PageAccepted.{refuse-pass}
-use Rattle.theory.proofs.calls.Pages.{table-lawful}
+use Rattle.theory.proofs.basics.Refusals.{refuse-pass}
+use Rattle.theory.proofs.walk.Lawful.{lawful}
 use Rattle.theory.proofs.walk.Moves.{step-accepted}
 use Rattle.graph.specs.Table.{graphOf}
 use Rattle.graph.proofs.Table.{table-size}
@@ -51,7 +51,7 @@ module _ {n : ℕ} {c : Factor} {t ranks : List ℕ} {p : Position} {w : List �
         position = M .position ∙ sym e;
         stands = subst⁻¹ (λ (y : Position). Stands G y w₂ s₂) e (M .stands);
         passes =
-            step-accepted (rulesAt G c) n (table-lawful n t (record { notion = 0; kind = 0; factor = c }) (W .accepted)) p
+            step-accepted (rulesAt G c) n (lawful G (W .simple .loopless) (record { notion = 0; kind = 0; factor = c })) p
             (W .stands .long ∙ table-size n t) (W .passes);
       }
 

@@ -6,9 +6,10 @@ use mathlib.Core.List.{List}
 use lib.ListN.{getD}
 use Rattle.model.specs.Graph.{Graph}
 use Rattle.model.specs.Groups.{Factor, settings}
+use Rattle.model.specs.Meaning.{Simple}
 use Rattle.model.specs.Walk.{Position, Rules, step}
 use Rattle.model.specs.Listing.{rules}
-use Rattle.model.specs.Calls.{refuseTable, refusePosition}
+use Rattle.model.specs.Calls.{refusePosition}
 use Rattle.graph.specs.Table.{graphOf}
 use Rattle.ranks.specs.Ranks.{HoldsRanks}
 use Rattle.state.specs.State.{Stands}
@@ -35,10 +36,10 @@ pub record Moved (G : Graph) (q p₂ : Position) (w₂ : List ℕ) (s₂ : State
   pub position : p₂ ≡ q
   pub stands : Stands G q w₂ s₂
 
--- What a step goes by: a table that is a graph's, its rank order and degrees, and the state and the work slice for a position that passes
+-- What a step goes by: the table of a graph of document 01, its rank order and degrees, and the state and the work slice for a position that passes
 -- refusals 21 to 23.
 pub record Walking (n : ℕ) (c : Factor) (t ranks : List ℕ) (p : Position) (w : List ℕ) (s : State) : Type 0 where
-  pub accepted : refuseTable n t 0 ≡ 0
+  pub simple : Simple (graphOf n t)
   pub ranked : HoldsRanks n t ranks
   pub stands : Stands (graphOf n t) p w s
   pub passes : Passes (graphOf n t) c p

@@ -20,7 +20,7 @@ returns-2 c = settings-by _ (le-ltb 2 _ (c .before .before .if1 .left)) (lt-ltb 
 
 -- the factor decides where notion and kind pass
 by-factor : (c : tie.Else2) (a b : Bool) → eqb (c .before .before .before .before .args .s .factor) 0 ≡ a → ltb 1024 (c .before .before .before .before .args .s .factor) ≡ b
-    → refuse 8 (a || b) 0 ≡ refuseSettings (settingsOf (c .before .before .before .before .args .s)) 0
+    → refuse 8 (a || b) 0 ≡ refuseSettings (settingsOf (c .before .before .before .before .args .s))
 unfolding refuse
 by-factor c a b e f = settings-by _ (le-ltb 2 _ (c .before .before .if1 .left)) (le-ltb 1 _ (c .if2 .left)) (ap₂ (λ (x y : Bool). x || y) e f)
 

@@ -35,21 +35,21 @@ returns c =
     let o = c .before .before .before .before .before .before .before .before .before .before .before .before .before in
     let l = o .before .before .before .before .before in
     let b = l .before .before .before .before .before .before .pre in
-    turned-ran (b .table) (b .settings) (l .loop .inv .0) _ _ (omega (arith, b .room, l .loop .inv .3)) (o .one-page .ensures) (c .before .before .held-add .ensures) (c .before .held-add2 .ensures) (c .if1 .taken)
+    turned-ran (b .no-fault) (b .settings) (l .loop .inv .0) _ _ (omega (arith, b .room, l .loop .inv .3)) (o .one-page .ensures) (c .before .before .held-add .ensures) (c .before .held-add2 .ensures) (c .if1 .taken)
 
 loop-less : tie.Need-loop-less Inv-loop μ-loop
 loop-less c =
     let o = c .before .before .before .before .before .before .before .before .before .before .before .before .before in
     let l = o .before .before .before .before .before in
     let b = l .before .before .before .before .before .before .pre in
-    turned-falls (b .table) (b .settings) (l .loop .inv .0) _ _ (omega (arith, b .room, l .loop .inv .3)) (o .one-page .ensures) (c .if1 .left) (omega (arith, b .output, l .loop .inv .2))
+    turned-falls (b .no-fault) (b .settings) (l .loop .inv .0) _ _ (omega (arith, b .room, l .loop .inv .3)) (o .one-page .ensures) (c .if1 .left) (omega (arith, b .output, l .loop .inv .2))
 
 loop-again : tie.Need-loop-again Inv-loop μ-loop
 loop-again c =
     let o = c .before .before .before .before .before .before .before .before .before .before .before .before .before in
     let l = o .before .before .before .before .before in
     let b = l .before .before .before .before .before .before .pre in (
-      turned-paged (b .table) (b .settings) (l .loop .inv .0) _ _ (omega (arith, b .room, l .loop .inv .3)) (o .one-page .ensures) (c .before .before .held-add .ensures) (c .before .held-add2 .ensures),
+      turned-paged (b .no-fault) (b .settings) (l .loop .inv .0) _ _ (omega (arith, b .room, l .loop .inv .3)) (o .one-page .ensures) (c .before .before .held-add .ensures) (c .before .held-add2 .ensures),
       o .one-page .kept .1 .0 ∙ l .loop .inv .1,
       o .one-page .kept .1 .1 .0 ∙ l .loop .inv .2,
       o .one-page .kept .1 .1 .1 .0 ∙ l .loop .inv .3,

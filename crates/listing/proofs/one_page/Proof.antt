@@ -16,11 +16,11 @@ use Rattle.listing.proofs.one_page.Statement.{statement}
 use Rattle.listing.proofs.one_page.Tie as tie
 
 slice-reshare-prefix-print-entries : tie.Need-slice-reshare-prefix-print-entries
-slice-reshare-prefix-print-entries c = used-fits (page-bounds _ _ _ _ _ _ _) (c .before .before .before .before .before .before .page .ensures .replies)
+slice-reshare-prefix-print-entries c = used-fits (page-bounds _ _) (c .before .before .before .before .before .before .page .ensures .replies)
 
 slice-aggregate-print-entries : tie.Need-slice-aggregate-print-entries
 slice-aggregate-print-entries c =
-    sym (length-take-le _ _ (used-fits (page-bounds _ _ _ _ _ _ _) (c .before .before .before .before .before .before .before .page .ensures .replies)))
+    sym (length-take-le _ _ (used-fits (page-bounds _ _) (c .before .before .before .before .before .before .before .page .ensures .replies)))
 
 print-entries-requires : tie.Need-print-entries-requires
 print-entries-requires c κs =

@@ -9,7 +9,7 @@ use Rattle.query.proofs.set_qualifies.Tie as tie
 members-of-requires : tie.Need-members-of-requires
 members-of-requires c κs =
     let start = c .before .before .before .before .before in
-    (work-fits (start .pre), accepted (start .pre) .bytes)
+    (work-fits (start .pre), accepted (start .pre) .long)
 
 same-length : tie.Need-same-length
 same-length c = c .before .before .before .members-of .ensures .0 .kept .length-kept
@@ -23,7 +23,7 @@ pairwise-joined-requires : tie.Need-pairwise-joined-requires
 pairwise-joined-requires c κs =
     let wrote = c .before .before .before .before in
     let ready = wrote .before .before .before .before .before .before .pre in
-    (accepted ready .table .fits, holds-members ready (wrote .members-of .ensures))
+    (accepted ready .fits, holds-members ready (wrote .members-of .ensures))
 
 same-length-2 : tie.Need-same-length-2
 same-length-2 c = c .before .before .before .before .before .before .members-of .ensures .0 .kept .length-kept
@@ -63,7 +63,7 @@ common-neighbours-requires : tie.Need-common-neighbours-requires
 common-neighbours-requires c κs =
     let wrote = c .before .before .before .before .before .before .before .before .before .before .before in
     let ready = wrote .before .before .before .before .before .before .pre in
-    (accepted ready .table .fits, holds-members ready (wrote .members-of .ensures))
+    (accepted ready .fits, holds-members ready (wrote .members-of .ensures))
 
 beaten-requires : tie.Need-beaten-requires
 beaten-requires c κs =

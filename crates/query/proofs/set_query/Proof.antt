@@ -8,7 +8,7 @@ use lib.ListN.{length}
 use Rattle.model.specs.Below.{bit}
 use Rattle.model.specs.Groups.{settings}
 use Rattle.model.specs.Calls.{refuseQuery}
-use Rattle.graph.specs.Table.{TableFits}
+use Rattle.graph.specs.Table.{TableFits, lent}
 use Rattle.ranks.specs.Ranks.{RanksFit}
 use Rattle.query.proofs.Refusals.{query-accepted}
 use Rattle.query.proofs.Answer.{answer-refused, answer-decided}
@@ -20,12 +20,12 @@ returns : tie.Need-returns
 returns c = answer-refused (c .before .query-refusal .result) (c .before .query-refusal .ensures) (c .if1 .taken)
 
 -- the call is accepted
-accepted : (c : tie.Else1) → refuseQuery (c .before .before .before .before .before .args .n) (c .before .before .before .before .before .args .table .now) (settings (c .before .before .before .before .before .args .notion) (c .before .before .before .before .before .args .kind) (c .before .before .before .before .before .args .c)) (c .before .before .before .before .before .args .set .now) (length (c .before .before .before .before .before .args .work .now)) ≡ 0
+accepted : (c : tie.Else1) → refuseQuery (lent (c .before .before .before .before .before .args .n) (c .before .before .before .before .before .args .table .now)) (settings (c .before .before .before .before .before .args .notion) (c .before .before .before .before .before .args .kind) (c .before .before .before .before .before .args .c)) (c .before .before .before .before .before .args .set .now) (length (c .before .before .before .before .before .args .work .now)) ≡ 0
 accepted c = sym (c .before .query-refusal .ensures) ∙ c .if1 .left
 
 -- so the table fits
 fits : (c : tie.Else1) → TableFits (c .before .before .before .before .before .args .n) (c .before .before .before .before .before .args .table .now)
-fits c = query-accepted _ _ (record { notion = _; kind = _; factor = _ }) _ (c .before .before .before .before .before .args .work .now) (accepted c) .table .fits
+fits c = query-accepted _ _ _ _ _ (accepted c) .fits
 
 -- and the ranks have room
 room : (c : tie.Else1) (ranks : List ℕ) → length ranks ≡ 2048 → RanksFit (c .before .before .before .before .before .args .n) ranks

@@ -14,7 +14,7 @@ use Rattle.model.specs.Graph.{byTable}
 use Rattle.model.specs.Groups.{Settings}
 use Rattle.model.specs.Walk.{Position, Rules, Page, halt, onward, has, finished, advance, retreat, step, found, due, page, stoppedFinished, stoppedFull, stoppedSpent}
 use Rattle.model.specs.Listing.{rules}
-use Rattle.model.specs.Calls.{refusePage, replyOf, pageCall}
+use Rattle.model.specs.Calls.{Call, refusePage, replyOf, replyTo}
 use Rattle.model.specs.Demand.{PageBounds}
 use Rattle.theory.proofs.walk.Remaining.{advance-length, retreat-length}
 
@@ -73,9 +73,9 @@ reply-bounds (suc k) r budget p out a b c =
     record { steps-within = zero-le; used-within = zero-le; output-rest = refl; output-length = refl; position-length = refl }
 
 -- Every page call keeps within its budget and its output, and keeps the rest of the output and both lengths.
-pub page-bounds : (n : ℕ) (t : List ℕ) (s : Settings) (budget : ℕ) (p : Position) (out : List ℕ) (work : ℕ)
-    → PageBounds budget p out (pageCall n t s budget p out work)
-unfolding pageCall
-page-bounds n t s budget p out work =
-    let k = page-kept (rules (byTable n t) s) budget (length out) p in
-    reply-bounds (refusePage n t s p work) (page (rules (byTable n t) s) budget (length out) p) budget p out (k .0) (k .1) (k .2)
+pub page-bounds : (c : Call) (p : Position) → PageBounds (c .budget) p (c .output) (replyTo c p)
+unfolding replyTo
+page-bounds c p =
+    let R = rules (c .lent .graph) (c .settings) in
+    let k = page-kept R (c .budget) (length (c .output)) p in
+    reply-bounds (refusePage (c .lent) (c .settings) p (c .work)) (page R (c .budget) (length (c .output)) p) (c .budget) p (c .output) (k .0) (k .1) (k .2)

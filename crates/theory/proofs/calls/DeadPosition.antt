@@ -13,14 +13,15 @@ use borrow.Author.Tests.{eqb-true, eq-eqb, ne-eqb}
 use Rattle.model.specs.Below.{least}
 use Rattle.model.specs.Graph.{Graph, vertexAt}
 use Rattle.model.specs.Groups.{Factor}
-use Rattle.model.specs.Meaning.{Under}
+use Rattle.model.specs.Meaning.{Under, Symmetric}
 use Rattle.model.specs.Walk.{Position, only, has}
 use Rattle.model.specs.Listing.{is, adjacent, pivot, apart, leftNeighbours, dead}
 use Rattle.model.specs.Calls.{gap, reopened}
 use Rattle.model.specs.Faults.{Apart, Dead, Reopened}
 pub use Rattle.theory.proofs.basics.Tests.{test-map, in-length, not-different}
-use Rattle.theory.proofs.basics.Tests.{suc-less, Test, fails, passes-or-fails, last-or-below, trichotomy}
+use Rattle.theory.proofs.basics.Tests.{suc-less, Test, passes-or-fails, last-or-below, trichotomy}
 use Rattle.theory.proofs.basics.Counting.{least-first, least-is}
+use Rattle.theory.proofs.graph.Ranks.{vertex-at}
 use Rattle.theory.proofs.walk.Remaining.{has-test}
 use Rattle.theory.proofs.walk.Lawful.{apart-test, dead-test, pivot-taken}
 
@@ -72,7 +73,7 @@ pub below-pivot : (G : Graph) (p : Position) (r : ℕ) → r < pivot G p → get
 unfolding pivot
 below-pivot G p r l e = true≢false (sym (eq-eqb (getD p r 0) 1 e) ∙ least-first (G .size) (is 1 p) r l)
 
-module _ (G : Graph) (mirrored : (u v : ℕ) → G .joined u v ≡ true → G .joined v u ≡ true) (c : Factor) (p : Position) (long : length p ≡ G .size) where
+module _ (G : Graph) (symmetric : Symmetric G) (c : Factor) (p : Position) (long : length p ≡ G .size) where
   pivot-least : (r : ℕ) → getD p r 0 ≡ 1 → ((i : ℕ) → i < r → getD p i 0 ≢ 1) → pivot G p ≡ r
   unfolding pivot
   pivot-least r e f =
@@ -106,13 +107,16 @@ module _ (G : Graph) (mirrored : (u v : ℕ) → G .joined u v ≡ true → G .j
           let b = taken-below p s es in
           (r, omega arith, (s, omega arith, (((l, eq-eqb (getD p r 0) 1 er), eq-eqb (getD p s 0) 1 es), e)))
 
-      turned : (r s : ℕ) → adjacent G r s ≡ false → adjacent G s r ≡ false
-      turned r s e = fails (adjacent G s r) (λ f. true≢false (sym (mirrored (vertexAt G s) (vertexAt G r) f) ∙ e))
+      turned : (r s : ℕ) → getD p r 0 ≡ 1 → getD p s 0 ≡ 1 → adjacent G r s ≡ false → adjacent G s r ≡ false
+      turned r s er es e =
+          let a = taken-below p r er in
+          let b = taken-below p s es in
+          symmetric (vertexAt G s) (vertexAt G r) (vertex-at G s (omega arith) .0) (vertex-at G r (omega arith) .0) ∙ e
 
       back : Apart G p → Pair
       back a =
           ⊎-elim (λ l. pair (a .one) (a .other) (a .one-taken) (a .other-taken) l (a .not-adjacent))
-          (⊎-elim (λ e. absurd (a .different e)) (λ l. pair (a .other) (a .one) (a .other-taken) (a .one-taken) l (turned (a .one) (a .other) (a .not-adjacent))))
+          (⊎-elim (λ e. absurd (a .different e)) (λ l. pair (a .other) (a .one) (a .other-taken) (a .one-taken) l (turned (a .one) (a .other) (a .one-taken) (a .other-taken) (a .not-adjacent))))
           (trichotomy (a .one) (a .other))
 
   -- the test of a dead position says what document 01 says
@@ -188,10 +192,10 @@ untaken-live : (G : Graph) (c : Factor) (p : Position) → ((r : ℕ) → getD p
 untaken-live G c p f (inl a) = let e = a .one-taken in let z = f (a .one) in omega arith
 untaken-live G c p f (inr l) = let e = l .taken in let z = f (l .pivot) in omega arith
 
-module _ (G : Graph) (mirrored : (u v : ℕ) → G .joined u v ≡ true → G .joined v u ≡ true) (c : Factor) (p : Position) (long : length p ≡ G .size) (g : Gap p → ⊥) where
+module _ (G : Graph) (symmetric : Symmetric G) (c : Factor) (p : Position) (long : length p ≡ G .size) (g : Gap p → ⊥) where
   reopened-dead : Test (dead G c (reopened p)) (Dead G c (reopened p))
   unfolding reopened
-  reopened-dead = dead-iff G mirrored c (reopened p) (length-set p (least (length p) (is 0 p) - 1) 0 ∙ long)
+  reopened-dead = dead-iff G symmetric c (reopened p) (length-set p (least (length p) (is 0 p) - 1) 0 ∙ long)
 
   -- refusal 23 says what document 01 says
   pub reopened-test : Test (dead G c (reopened p)) (Reopened G c p)

@@ -1,10 +1,17 @@
 -- A list of faults: the number of the first that holds is determined, and it is 0 exactly where no fault holds.
 -- Assumes nothing.
-use Prim.Native.Nat.{ℕ}
-use mathlib.Core.Path.{_≡_, sym, _∙_}
-use mathlib.Core.Logic.{_↔_, _≢_, inl, inr}
-use mathlib.Core.List.{List, [], _∷_}
-use Rattle.model.specs.Fault.{Fault, FirstFault, NoFault}
+use Prim.Native.Nat.{ℕ, zero, suc, _<_}
+use mathlib.Core.Path.{_≡_, refl, sym, _∙_, subst⁻¹}
+use mathlib.Core.Bool.{Bool, true, false, false≢true}
+use mathlib.Core.Logic.{_↔_, _⊎_, inl, inr}
+use mathlib.Core.List.{List, [], _∷_, _++_}
+use native.Mathlib.Omega.{arith}
+use native.Mathlib.Nat.{not-suc-le-zero}
+use lib.ListN.{length, getD}
+use Rattle.model.specs.Fault.{Fault, numbered, Numbers, FirstFault, NoFault}
+use Rattle.model.specs.Calls.{refuse, orElse, over}
+use Rattle.theory.proofs.basics.Tests.{Test, test-map, test-or, test-lt}
+use Rattle.theory.proofs.basics.Refusals.{else-none, else-found}
 
 -- the number is determined by what the faults say
 pub first-once : (fs : List Fault) (j k : ℕ) → FirstFault fs j → FirstFault fs k → j ≡ k
@@ -22,12 +29,7 @@ none-first [] k n a = a
 none-first (f ∷ fs) k n (inl a) = absurd (n .0 (a .0))
 none-first (f ∷ fs) k n (inr a) = none-first fs k (n .1) (a .1)
 
--- every fault of the list has a number other than 0
-abbrev pub Numbers : List Fault → Type 0
-Numbers [] = Unit {0}
-Numbers (f ∷ fs) = (f .number ≢ 0) × Numbers fs
-
--- then it is 0 only where no fault holds
+-- and it is 0 only there, since every fault has a number
 pub first-none : (fs : List Fault) (k : ℕ) → Numbers fs → FirstFault fs k → (k ≡ 0) ↔ NoFault fs
 unfolding FirstFault
 first-none fs k r a = (λ z. there fs k r a z, λ n. none-first fs k n a)
@@ -36,6 +38,18 @@ first-none fs k r a = (λ z. there fs k r a z, λ n. none-first fs k n a)
     there [] k r a z = tt
     there (f ∷ fs) k r (inl a) z = absurd (r .0 (sym (a .1) ∙ z))
     there (f ∷ fs) k r (inr a) z = (a .0, there fs k (r .1) (a .1) z)
+
+-- two lists of faults, one after the other: the later ones count where none of the earlier holds
+pub first-else : (fs gs : List Fault) (j k : ℕ) → Numbers fs → FirstFault fs j → (NoFault fs → FirstFault gs k) → FirstFault (fs ++ gs) (orElse j k)
+unfolding FirstFault
+first-else [] gs j k r a f = subst⁻¹ (FirstFault gs) (else-none a k) (f tt)
+first-else (g ∷ fs) gs j k r (inl a) f = inl (a .0, else-found (λ z. r .0 (sym (a .1) ∙ z)) k ∙ a .1)
+first-else (g ∷ fs) gs j k r (inr a) f = inr (a .0, first-else fs gs j k (r .1) (a .1) (λ n. f (a .0, n)))
+
+-- the numbers of both
+pub numbers-both : (fs gs : List Fault) → Numbers fs → Numbers gs → Numbers (fs ++ gs)
+numbers-both [] gs a b = b
+numbers-both (f ∷ fs) gs a b = (a .0, numbers-both fs gs (a .1) b)
 
 -- no fault holds, shown by one refutation after another
 abbrev Refuted : List Fault → Type 0 → Type 0
@@ -49,3 +63,34 @@ refuted (f ∷ fs) R k = λ h. refuted fs R (λ r. k (h, r))
 -- a refutation of each fault, one after another, shows that none holds
 pub none-of : (fs : List Fault) → Refuted fs (NoFault fs)
 none-of fs = refuted fs (NoFault fs) (λ r. r)
+
+-- ---- tests
+
+-- a refusal by a test, and then what the later tests find where its fault does not hold
+pub refuse-first : (k : ℕ) (b : Bool) {P : Type 0} (fs : List Fault) (later : ℕ) → Test b P → ((P → ⊥) → FirstFault fs later)
+    → FirstFault (numbered k P ∷ fs) (refuse k b later)
+unfolding refuse FirstFault
+refuse-first k true fs later t f = inl (t .0 refl, refl)
+refuse-first k false fs later t f = inr (λ h. false≢true (t .1 h), f (λ h. false≢true (t .1 h)))
+
+-- where all tests are passed no fault is found
+pub none-found : FirstFault [] 0
+unfolding FirstFault
+none-found = refl
+
+-- some byte is over m: 3, 11 and 21
+pub over-test : (m : ℕ) (bs : List ℕ) → Test (over m bs) ((i : ℕ) × (i < length bs) × (m < getD bs i 0))
+unfolding over
+over-test m [] = (λ e. absurd (false≢true e), λ r. absurd (not-suc-le-zero (r .1)))
+over-test m (b ∷ bs) = test-map (test-or (test-lt m b) (over-test m bs)) there back
+  where
+    there : (m < b) ⊎ ((i : ℕ) × (i < length bs) × (m < getD bs i 0)) → (i : ℕ) × (i < suc (length bs)) × (m < getD (b ∷ bs) i 0)
+    there (inl h) = (0, omega arith, h)
+    there (inr r) = let l = r .1 in (suc (r .0), omega arith, r .2)
+
+    at : (i : ℕ) → i < suc (length bs) → m < getD (b ∷ bs) i 0 → (m < b) ⊎ ((i : ℕ) × (i < length bs) × (m < getD bs i 0))
+    at zero l h = inl h
+    at (suc i) l h = inr (i, omega arith, h)
+
+    back : (i : ℕ) × (i < suc (length bs)) × (m < getD (b ∷ bs) i 0) → (m < b) ⊎ ((i : ℕ) × (i < length bs) × (m < getD bs i 0))
+    back r = at (r .0) (r .1) (r .2)

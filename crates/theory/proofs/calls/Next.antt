@@ -4,63 +4,79 @@ use Prim.Native.Nat.{ℕ, _+_, _*_, _≤_}
 use mathlib.Core.Path.{_≡_, sym, ap, _∙_}
 use mathlib.Core.List.{List}
 use lib.ListN.{length}
-use Rattle.model.specs.Graph.{byTable}
-use Rattle.model.specs.Groups.{Settings}
-use Rattle.model.specs.Walk.{Position, fresh, after, page}
+use Rattle.model.specs.Graph.{Graph}
+use Rattle.model.specs.Meaning.{Simple}
+use Rattle.model.specs.Walk.{Position, Rules, fresh, after, page}
 use Rattle.model.specs.Listing.{rules}
-use Rattle.model.specs.Calls.{PageReply, refuseTable, refuseSettings, refusePage, pageCall}
-use Rattle.model.specs.Demand.{Call, replies, leftAt, allSteps, Agree, Demand3}
+use Rattle.model.specs.Calls.{Call, PageReply, refuseSettings, refusePosition, refusePage, replyTo}
+use Rattle.model.specs.Demand.{replies, leftAt, allSteps, Agree, Demand3}
+use Rattle.theory.proofs.walk.Lawful.{lawful}
 use Rattle.theory.proofs.walk.Remaining.{fresh-fit}
 use Rattle.theory.proofs.walk.Walk.{after-valid, after-add}
-use Rattle.theory.proofs.calls.PageAccepted.{accepted-iff}
+use Rattle.theory.proofs.calls.Acceptance.{page-accepted-iff}
 use Rattle.theory.proofs.walk.Accepted.{walk-accepted}
 use Rattle.theory.proofs.walk.Visited.{visited-iff}
-use Rattle.theory.proofs.calls.Pages.{page-does, replied, call-refused, table-lawful, demand3}
+use Rattle.theory.proofs.calls.Pages.{page-does, replied, call-refused, call-accepted, demand3}
 
-module _ (n : ℕ) (t : List ℕ) (s : Settings) where
-  -- a call on a position of the walk is refused by nothing
-  pub walk-page-accepted : refuseTable n t 0 ≡ 0 → refuseSettings s 0 ≡ 0 → (k work : ℕ) → 8 * n ≤ work
-      → refusePage n t s (after (rules (byTable n t) s) k (fresh n)) work ≡ 0
-  walk-page-accepted a b k work w =
-      let R = rules (byTable n t) s in
-      let law = table-lawful n t s a in
-      accepted-iff n t s (after R k (fresh n)) work .1
-      (record { table = a; proper = b; long = after-valid R n law k (fresh n) (fresh-fit n) .0; enough = w; stands = walk-accepted R n law k })
+-- what a call brings that may be accepted: a graph lent without a fault, proper settings, and a work slice of 8 × n entries or more
+pub record Acceptable (c : Call) : Type 0 where
+  pub no-fault : c .lent .fault ≡ 0
+  pub simple : Simple (c .lent .graph)
+  pub proper : refuseSettings (c .settings) ≡ 0
+  pub enough : 8 * c .lent .graph .size ≤ c .work
 
-  -- so it is accepted
-  pub walk-call-accepted : refuseTable n t 0 ≡ 0 → refuseSettings s 0 ≡ 0 → (k : ℕ) (p : Position) → after (rules (byTable n t) s) k (fresh n) ≡ p
-      → (budget : ℕ) (out : List ℕ) (work : ℕ) → 8 * n ≤ work → pageCall n t s budget p out work .refused ≡ 0
-  walk-call-accepted a b k p e budget out work w =
-      call-refused n t s budget p out work ∙ ap (λ (q : Position). refusePage n t s q work) (sym e) ∙ walk-page-accepted a b k work w
+-- it is accepted on a position of the walk
+pub walk-call-accepted : (c : Call) → Acceptable c → (k : ℕ) (p : Position) → after (rules (c .lent .graph) (c .settings)) k (fresh (c .lent .graph .size)) ≡ p
+    → replyTo c p .refused ≡ 0
+walk-call-accepted c f k p e =
+    let G = c .lent .graph in
+    let R = rules G (c .settings) in
+    let law = lawful G (f .simple .loopless) (c .settings) in
+    call-refused c p ∙ ap (λ (q : Position). refusePage (c .lent) (c .settings) q (c .work)) (sym e)
+    ∙ page-accepted-iff (c .lent) (c .settings) (after R k (fresh (G .size))) (c .work) .1
+    (record {
+      input =
+          record {
+            no-fault = f .no-fault;
+            proper = f .proper;
+            long = after-valid R (G .size) law k (fresh (G .size)) (fresh-fit (G .size)) .0;
+            enough = f .enough;
+          };
+      stands = walk-accepted R (G .size) law k;
+    })
 
-  -- the position that a call leaves is where its steps lead
-  call-leads : (budget : ℕ) (p : Position) (out : List ℕ) (work : ℕ)
-      → after (rules (byTable n t) s) (pageCall n t s budget p out work .steps) p ≡ pageCall n t s budget p out work .position
-  unfolding pageCall
-  call-leads budget p out work =
-      replied (rules (byTable n t) s) (refusePage n t s p work) (page (rules (byTable n t) s) budget (length out) p) p out
-      (λ z. page-does (rules (byTable n t) s) budget (length out) p) .0 .to
+-- the position that a call leaves is where its steps lead
+call-leads : (c : Call) (p : Position) → after (rules (c .lent .graph) (c .settings)) (replyTo c p .steps) p ≡ replyTo c p .position
+unfolding replyTo
+call-leads c p =
+    let R = rules (c .lent .graph) (c .settings) in
+    replied R (refusePage (c .lent) (c .settings) p (c .work)) (page R (c .budget) (length (c .output)) p) p (c .output)
+    (λ z. page-does R (c .budget) (length (c .output)) p) .0 .to
 
-  -- After an accepted page call, a call with the same table and settings on the position that it left is accepted, whatever budget, output and
-  -- work slice of 8 × n entries or more it brings.
-  pub next-accepted : (budget : ℕ) (p : Position) (out : List ℕ) (work : ℕ) → pageCall n t s budget p out work .refused ≡ 0
-      → (budget₂ : ℕ) (out₂ : List ℕ) (work₂ : ℕ) → 8 * n ≤ work₂ → pageCall n t s budget₂ (pageCall n t s budget p out work .position) out₂ work₂ .refused ≡ 0
-  next-accepted budget p out work e budget₂ out₂ work₂ w =
-      let h = accepted-iff n t s p work .0 (sym (call-refused n t s budget p out work) ∙ e) in
-      let v = visited-iff (rules (byTable n t) s) n (table-lawful n t s (h .table)) p (h .long) .0 (h .stands) in
-      walk-call-accepted (h .table) (h .proper) (v .0 + pageCall n t s budget p out work .steps) (pageCall n t s budget p out work .position)
-      (after-add (rules (byTable n t) s) (v .0) (pageCall n t s budget p out work .steps) (fresh n)
-      ∙ ap (after (rules (byTable n t) s) (pageCall n t s budget p out work .steps)) (v .1)
-      ∙ call-leads budget p out work)
-      budget₂ out₂ work₂ w
+-- After an accepted page call, an acceptable call that brings the same graph and settings is accepted on the position that it left, whatever its
+-- budget and output.
+pub next-accepted : (c d : Call) → Acceptable d → c .lent .graph ≡ d .lent .graph → c .settings ≡ d .settings → (p : Position) → replyTo c p .refused ≡ 0
+    → replyTo d (replyTo c p .position) .refused ≡ 0
+next-accepted c d f g s p e =
+    let G = d .lent .graph in
+    let R = rules G (d .settings) in
+    let same : rules (c .lent .graph) (c .settings) ≡ R = λ i. rules (g i) (s i) in
+    let h = call-accepted c p e in
+    let long : length p ≡ G .size = h .input .long ∙ ap (λ (X : Graph). X .size) g in
+    let v = visited-iff R (G .size) (lawful G (f .simple .loopless) (d .settings)) p long .0 (ap (λ (X : Rules). refusePosition X p) (sym same) ∙ h .stands) in
+    walk-call-accepted d f (v .0 + replyTo c p .steps) (replyTo c p .position)
+    (after-add R (v .0) (replyTo c p .steps) (fresh (G .size))
+    ∙ ap (after R (replyTo c p .steps)) (v .1)
+    ∙ ap (λ (X : Rules). after X (replyTo c p .steps) p) (sym same)
+    ∙ call-leads c p)
 
-  -- so is a call after replies of which demand 3 holds
-  pub demand-accepted : refuseTable n t 0 ≡ 0 → refuseSettings s 0 ≡ 0 → (rs : List PageReply) → Demand3 (rules (byTable n t) s) n rs
-      → (budget : ℕ) (out : List ℕ) (work : ℕ) → 8 * n ≤ work → pageCall n t s budget (leftAt rs (fresh n)) out work .refused ≡ 0
-  demand-accepted a b rs d = walk-call-accepted a b (allSteps rs) (leftAt rs (fresh n)) (sym (d .reached))
+-- So is a call after replies of which demand 3 holds.
+pub demand-accepted : (c : Call) → Acceptable c → (rs : List PageReply) → Demand3 (rules (c .lent .graph) (c .settings)) (c .lent .graph .size) rs
+    → replyTo c (leftAt rs (fresh (c .lent .graph .size))) .refused ≡ 0
+demand-accepted c f rs d = walk-call-accepted c f (allSteps rs) (leftAt rs (fresh (c .lent .graph .size))) (sym (d .reached))
 
-  -- After any list of page calls as in demand 3, a call with the graph's table, proper settings and a work slice of 8 × n entries or more is
-  -- accepted.
-  pub list-accepted : refuseTable n t 0 ≡ 0 → refuseSettings s 0 ≡ 0 → (cs : List Call) → Agree t s cs (fresh n)
-      → (budget : ℕ) (out : List ℕ) (work : ℕ) → 8 * n ≤ work → pageCall n t s budget (leftAt (replies cs (fresh n)) (fresh n)) out work .refused ≡ 0
-  list-accepted a b cs g = demand-accepted a b (replies cs (fresh n)) (demand3 n t s a cs g .done)
+-- After any list of page calls as in demand 3, an acceptable call that brings the graph and the settings is accepted.
+pub list-accepted : (c : Call) → Acceptable c → (cs : List Call) → Agree (c .lent .graph) (c .settings) cs (fresh (c .lent .graph .size))
+    → replyTo c (leftAt (replies cs (fresh (c .lent .graph .size))) (fresh (c .lent .graph .size))) .refused ≡ 0
+list-accepted c f cs g =
+    demand-accepted c f (replies cs (fresh (c .lent .graph .size))) (demand3 (c .lent .graph) (c .settings) (f .simple) cs g .done)

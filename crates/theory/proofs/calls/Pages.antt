@@ -12,16 +12,16 @@ use lib.ListN.{length, take, drop, length-append, length-map}
 use lib.Seq.{take-at}
 use lib.Dec.{ltb}
 use Rattle.model.specs.Below.{bit, passing}
-use Rattle.model.specs.Graph.{Graph, byTable, vertexAt}
+use Rattle.model.specs.Graph.{Graph, vertexAt}
 use Rattle.model.specs.Groups.{Settings, VertexSet}
 use Rattle.model.specs.Meaning.{Qualifies}
 use Rattle.model.specs.Walk.{Position, Rules, Page, halt, onward, fresh, finished, step, after, lasts, found, due, groupsOf, records, fullSets, fullList, page, stoppedFinished, stoppedFull, stoppedSpent}
-use Rattle.model.specs.Listing.{is, rules, takenList, recordOf}
-use Rattle.model.specs.Calls.{PageReply, looped, refuseTable, refusePage, replyOf, pageCall}
-use Rattle.model.specs.Demand.{Call, replyTo, replies, leftAt, joinedOutput, allSteps, allGroups, Agree, Prefix, SaidFinished, SomeFinished, Demand3, Each, MakesStep, Idle, RefusedIdle, Demanded}
+use Rattle.model.specs.Listing.{is, rules, takenList, recordOf, recordLength}
+use Rattle.model.specs.Calls.{Call, PageReply, refusePage, replyOf, replyTo}
+use Rattle.model.specs.Demand.{replies, leftAt, joinedOutput, allSteps, allGroups, Agree, Prefix, SaidFinished, SomeFinished, Demand3, Each, MakesStep, Idle, RefusedIdle, Demanded}
 use Rattle.theory.specs.Replies.{gone, Went, Replied, Chain}
-use Rattle.theory.proofs.basics.Tests.{lt-or-ge, fails, test-any, test-self}
-use Rattle.theory.proofs.calls.PageAccepted.{refuse-pass, accepted-iff}
+use Rattle.theory.proofs.basics.Tests.{lt-or-ge}
+use Rattle.theory.proofs.calls.Acceptance.{PageAccepted, page-accepted-iff}
 use Rattle.theory.proofs.calls.Bounds.{page-bounds}
 use Rattle.theory.proofs.walk.Listing.{lists}
 use Rattle.theory.proofs.walk.Lawful.{lawful}
@@ -238,14 +238,17 @@ none-left G s rs d f e S q =
 -- ---- the page calls of document 01
 
 -- a page call's refusal number
-pub call-refused : (n : ℕ) (t : List ℕ) (s : Settings) (budget : ℕ) (p : Position) (out : List ℕ) (work : ℕ)
-    → pageCall n t s budget p out work .refused ≡ refusePage n t s p work
-unfolding pageCall
-call-refused n t s budget p out work = refused-same (refusePage n t s p work) _ p out
+pub call-refused : (c : Call) (p : Position) → replyTo c p .refused ≡ refusePage (c .lent) (c .settings) p (c .work)
+unfolding replyTo
+call-refused c p = refused-same (refusePage (c .lent) (c .settings) p (c .work)) _ p (c .output)
+
+-- an accepted page call's refusals all pass
+pub call-accepted : (c : Call) (p : Position) → replyTo c p .refused ≡ 0 → PageAccepted (c .lent) (c .settings) p (c .work)
+call-accepted c p e = page-accepted-iff (c .lent) (c .settings) p (c .work) .0 (sym (call-refused c p) ∙ e)
 
 -- a page call keeps the number of ranks
 call-long : (n : ℕ) (c : Call) (p : Position) → length p ≡ n → length (replyTo c p .position) ≡ n
-call-long n c p l = page-bounds (c .size) (c .table) (c .settings) (c .budget) p (c .output) (c .work) .position-length ∙ l
+call-long n c p l = page-bounds c p .position-length ∙ l
 
 -- a refused reply did nothing
 reply-idle : (k : ℕ) (r : Page) (p : Position) (out : List ℕ) → replyOf k r p out .refused ≢ 0 → Idle p (replyOf k r p out)
@@ -254,10 +257,10 @@ reply-idle zero r p out d = absurd (d refl)
 reply-idle (suc k) r p out d = record { no-output = refl; no-groups = refl; no-steps = refl; stays = refl }
 
 call-idle : (c : Call) (p : Position) → RefusedIdle c p
-unfolding pageCall
-call-idle c p = reply-idle (refusePage (c .size) (c .table) (c .settings) p (c .work)) _ p (c .output)
+unfolding replyTo
+call-idle c p = reply-idle (refusePage (c .lent) (c .settings) p (c .work)) _ p (c .output)
 
--- ---- progress: with a budget of 1 or more and n + 1 entries or more, a page from an unfinished position makes a step
+-- ---- progress: with a budget of 1 or more and room for the largest record, a page from an unfinished position makes a step
 
 passing-length : (n : ℕ) (p : ℕ → Bool) → length (passing n p) ≤ n
 unfolding passing
@@ -268,7 +271,7 @@ passing-length (suc n) p = go (p n) (passing-length n p)
     go true h = omega (arith, length-append (passing n p) (n ∷ []))
     go false h = omega (arith, length-append (passing n p) [])
 
-record-length : (G : Graph) (p : Position) → length (recordOf G p) ≤ G .size + 1
+record-length : (G : Graph) (p : Position) → length (recordOf G p) ≤ recordLength (G .size)
 unfolding recordOf takenList
 record-length G p =
     let a = passing-length (G .size) (is 1 p) in
@@ -276,90 +279,75 @@ record-length G p =
     omega arith
 
 -- with a budget and room for the largest group, a page on an unfinished walk makes a step
-pub progress : (G : Graph) (s : Settings) (budget room : ℕ) (p : Position) → G .size + 1 ≤ room → finished p ≡ false
+pub progress : (G : Graph) (s : Settings) (budget room : ℕ) (p : Position) → recordLength (G .size) ≤ room → finished p ≡ false
     → 1 ≤ page (rules G s) (suc budget) room p .steps
 unfolding page due
 progress G s budget room p h e =
     rw (e, le-ltb room (length (due (rules G s) p)) (le-trans (short (found (rules G s) p)) h), page) (omega arith)
   where
-    short : (b : Bool) → length (cond b (recordOf G p) []) ≤ G .size + 1
+    short : (b : Bool) → length (cond b (recordOf G p) []) ≤ recordLength (G .size)
     short true = record-length G p
     short false = zero-le
 
-reply-steps : (k : ℕ) (r : Page) (p : Position) (out : List ℕ) → replyOf k r p out .refused ≡ 0 → replyOf k r p out .steps ≡ r .steps
+reply-steps : (k : ℕ) (r : Page) (p : Position) (out : List ℕ) → k ≡ 0 → replyOf k r p out .steps ≡ r .steps
 unfolding replyOf
 reply-steps zero r p out e = refl
 reply-steps (suc k) r p out e = absurd (omega arith)
 
--- An accepted page call on an unfinished position, with a budget of 1 or more and an output of n + 1 entries or more, makes at least one step.
-pub call-progress : (n : ℕ) (t : List ℕ) (s : Settings) (budget : ℕ) (p : Position) (out : List ℕ) (work : ℕ)
-    → pageCall n t s budget p out work .refused ≡ 0 → finished p ≡ false → 1 ≤ budget → n + 1 ≤ length out → 1 ≤ pageCall n t s budget p out work .steps
-unfolding pageCall
-call-progress n t s zero p out work e f b l = absurd (omega arith)
-call-progress n t s (suc budget) p out work e f b l =
-    subst⁻¹ (λ (k : ℕ). 1 ≤ k) (reply-steps (refusePage n t s p work) _ p out e) (progress (byTable n t) s budget (length out) p l f)
+-- An accepted page call on an unfinished position, with a budget of 1 or more and room for the largest record, makes at least one step.
+pub call-progress : (c : Call) (p : Position) → MakesStep (c .lent .graph .size) c p
+unfolding replyTo
+call-progress c p e f b l = go (c .budget) b
+  where
+    G : Graph
+    G = c .lent .graph
 
-module _ (n : ℕ) (t : List ℕ) (s : Settings) where
-  -- an accepted call that is handed n ranks has this size
-  accepted-size : (c : Call) (p : Position) → length p ≡ n → replyTo c p .refused ≡ 0 → c .size ≡ n
-  accepted-size c p l e =
-      let z = sym (call-refused (c .size) (c .table) (c .settings) (c .budget) p (c .output) (c .work)) ∙ e in
-      sym (accepted-iff (c .size) (c .table) (c .settings) p (c .work) .0 z .long) ∙ l
+    go : (budget : ℕ) → 1 ≤ budget
+        → 1 ≤ replyOf (refusePage (c .lent) (c .settings) p (c .work)) (page (rules G (c .settings)) budget (length (c .output)) p) p (c .output) .steps
+    go zero b = absurd (omega arith)
+    go (suc budget) b =
+        subst⁻¹ (λ (k : ℕ). 1 ≤ k) (reply-steps (refusePage (c .lent) (c .settings) p (c .work)) _ p (c .output) (sym (call-refused c p) ∙ e))
+        (progress G (c .settings) budget (length (c .output)) p l f)
 
-  call-steps : (c : Call) (p : Position) → length p ≡ n → MakesStep n c p
+module _ (G : Graph) (s : Settings) where
+  call-steps : (c : Call) (p : Position) → length p ≡ G .size → MakesStep (G .size) c p
   call-steps c p l e f b h =
-      let z = accepted-size c p l e in
-      call-progress (c .size) (c .table) (c .settings) (c .budget) p (c .output) (c .work) e f b (omega arith)
+      let z = call-accepted c p e .input .long in
+      call-progress c p e f b (omega arith)
 
   -- the reply to a call, whatever it brings, is one on this graph where it is accepted
-  call-replied : (c : Call) (p : Position) → length p ≡ n → (replyTo c p .refused ≡ 0 → (c .table ≡ t) × (c .settings ≡ s)) → Replied (rules (byTable n t) s) p (replyTo c p)
-  unfolding pageCall
-  call-replied c p l agree =
-      replied (rules (byTable n t) s) (refusePage (c .size) (c .table) (c .settings) p (c .work)) own p (c .output)
+  call-replied : (c : Call) (p : Position) → (replyTo c p .refused ≡ 0 → (c .lent .graph ≡ G) × (c .settings ≡ s)) → Replied (rules G s) p (replyTo c p)
+  unfolding replyTo
+  call-replied c p agree =
+      replied (rules G s) (refusePage (c .lent) (c .settings) p (c .work)) own p (c .output)
       (λ z.
-      let a = call-refused (c .size) (c .table) (c .settings) (c .budget) p (c .output) (c .work) ∙ z in
-      let e = agree a in
-      let m = accepted-size c p l a in
-      subst (λ (X : Rules). Does X p own) (λ i. rules (byTable (m i) (e .0 i)) (e .1 i))
-      (page-does (rules (byTable (c .size) (c .table)) (c .settings)) (c .budget) (length (c .output)) p))
+      let e = agree (call-refused c p ∙ z) in
+      subst (λ (X : Rules). Does X p own) (λ i. rules (e .0 i) (e .1 i))
+      (page-does (rules (c .lent .graph) (c .settings)) (c .budget) (length (c .output)) p))
     where
       own : Page
-      own = page (rules (byTable (c .size) (c .table)) (c .settings)) (c .budget) (length (c .output)) p
+      own = page (rules (c .lent .graph) (c .settings)) (c .budget) (length (c .output)) p
 
-  -- each call of a list is handed n ranks
-  each : (P : Call → Position → Type 0) → ((c : Call) (p : Position) → length p ≡ n → P c p) → (cs : List Call) (p : Position) → length p ≡ n → Each P cs p
+  -- each call of a list is handed the graph's number of ranks
+  each : (P : Call → Position → Type 0) → ((c : Call) (p : Position) → length p ≡ G .size → P c p) → (cs : List Call) (p : Position) → length p ≡ G .size → Each P cs p
   each P f [] p l = tt
-  each P f (c ∷ cs) p l = (f c p l, each P f cs (replyTo c p .position) (call-long n c p l))
+  each P f (c ∷ cs) p l = (f c p l, each P f cs (replyTo c p .position) (call-long (G .size) c p l))
 
   -- the replies to page calls are such a list
-  calls-chain : (cs : List Call) (p : Position) → length p ≡ n → Agree t s cs p → Chain (rules (byTable n t) s) p (replies cs p)
+  calls-chain : (cs : List Call) (p : Position) → Agree G s cs p → Chain (rules G s) p (replies cs p)
   unfolding replies
-  calls-chain [] p l a = tt
-  calls-chain (c ∷ cs) p l a = (call-replied c p l (a .0), calls-chain cs (replyTo c p .position) (call-long n c p l) (a .1))
+  calls-chain [] p a = tt
+  calls-chain (c ∷ cs) p a = (call-replied c p (a .0), calls-chain cs (replyTo c p .position) (a .1))
 
-  -- a table that is not refused has no loops, so its rules are lawful
-  table-loopless : refuseTable n t 0 ≡ 0 → (u : ℕ) → u < byTable n t .size → byTable n t .joined u u ≡ false
-  unfolding refuseTable looped
-  table-loopless e u h =
-      let e1 = refuse-pass 0 _ _ e .1 in
-      let e2 = refuse-pass 1 _ _ e1 .1 in
-      let e3 = refuse-pass 2 _ _ e2 .1 in
-      let e4 = refuse-pass 3 _ _ e3 .0 in
-      fails (byTable n t .joined u u)
-      (λ j. true≢false (sym (test-any (byTable n t .size) (λ v. byTable n t .joined v v) (λ v. test-self) .1 (u, h, j)) ∙ e4))
-
-  -- so the rules of an accepted table are lawful
-  pub table-lawful : refuseTable n t 0 ≡ 0 → Lawful (rules (byTable n t) s) n
-  table-lawful e = lawful (byTable n t) (table-loopless e) s
-
-  -- Demand 3: whatever the list of page calls, on a graph's table and any settings.
-  pub demand3 : Demanded n t s
-  demand3 valid cs a =
-      let long = fresh-fit n .0 in
-      let done = chain-demand (rules (byTable n t) s) n (table-lawful valid) (replies cs (fresh n)) (calls-chain cs (fresh n) long a) in
+  -- Demand 3: whatever the list of page calls, on a graph and any settings, in whatever form each call is lent the graph.
+  pub demand3 : Demanded G s
+  demand3 simple cs a =
+      let start = fresh (G .size) in
+      let long = fresh-fit (G .size) .0 in
+      let done = chain-demand (rules G s) (G .size) (lawful G (simple .loopless) s) (replies cs start) (calls-chain cs start a) in
       record {
         done = done;
-        none-qualifies = none-left (byTable n t) s (replies cs (fresh n)) done;
-        makes-step = each (MakesStep n) call-steps cs (fresh n) long;
-        refused-idle = each RefusedIdle (λ c p l. call-idle c p) cs (fresh n) long;
+        none-qualifies = none-left G s (replies cs start) done;
+        makes-step = each (MakesStep (G .size)) call-steps cs start long;
+        refused-idle = each RefusedIdle (λ c p l. call-idle c p) cs start long;
       }

@@ -11,8 +11,8 @@ use borrow.Author.Tests.{eq-eqb, ne-eqb}
 use Rattle.model.specs.Below.{implies, all, count}
 use Rattle.model.specs.Graph.{Graph, degree, rankOf}
 use Rattle.model.specs.Groups.{Factor, VertexSet, sizeOf, outside, outgoing, with-vertex}
-use Rattle.model.specs.Meaning.{In, Under, Clique, Isolated, Larger}
-use Rattle.theory.specs.Search.{Loopless, Symmetric, JoinsAll, common, Common}
+use Rattle.model.specs.Meaning.{In, Under, Clique, Isolated, Larger, Loopless, Symmetric}
+use Rattle.theory.specs.Search.{JoinsAll, common, Common}
 use Rattle.theory.proofs.basics.Tests.{Test, test-and, test-or, test-implies, test-self, test-fails, test-eq, test-all, trichotomy, fails, count-same}
 use Rattle.theory.proofs.basics.Counting.{count-remove, count-split}
 use Rattle.theory.proofs.graph.Ranks.{rank-degree}

@@ -12,8 +12,8 @@ use borrow.Author.Tests.{eq-eqb, ne-eqb}
 use Rattle.model.specs.Below.{bit, count, total}
 use Rattle.model.specs.Graph.{Graph, degree}
 use Rattle.model.specs.Groups.{Factor, VertexSet, within, sizeOf, outside, outgoing, isolatedAvg, isolated, with-vertex}
-use Rattle.model.specs.Meaning.{In, Clique}
-use Rattle.theory.specs.Search.{Loopless, gather, degreeSum, leastDegree, largestDegree, isolatedBy, Tally}
+use Rattle.model.specs.Meaning.{In, Clique, Loopless}
+use Rattle.theory.specs.Search.{gather, degreeSum, leastDegree, largestDegree, isolatedBy, Tally}
 pub use Rattle.theory.proofs.basics.Tests.{test-agree}
 use Rattle.theory.proofs.basics.Tests.{last-or-below, trichotomy, lt-or-ge, count-same, count-le}
 use Rattle.theory.proofs.basics.Counting.{count-remove}

@@ -23,7 +23,9 @@ use Rattle.theory.specs.Replies.{Chain}
 use Rattle.theory.specs.Printed.{printed, printedPages}
 use Rattle.theory.proofs.walk.Ends.{walk-ends, length-once}
 use Rattle.theory.proofs.walk.Walk.{records-append}
-use Rattle.theory.proofs.calls.Pages.{chain-demand, table-lawful}
+use Rattle.theory.proofs.calls.TableFaults.{table-simple}
+use Rattle.theory.proofs.calls.Pages.{chain-demand}
+use Rattle.theory.proofs.walk.Lawful.{lawful}
 use Rattle.theory.proofs.program.Printed.{list-printed, pages-printed}
 use Rattle.theory.proofs.text.EdgeTextGraph.{read-table-accepted}
 
@@ -32,9 +34,9 @@ use Rattle.theory.proofs.text.EdgeTextGraph.{read-table-accepted}
 -- the settings that words give pass, and a refusal has a number
 abbrev WordsPassed : Words → Type 0
 WordsPassed (wrong k) = 0 < k
-WordsPassed (chosen s) = refuseSettings s 0 ≡ 0
+WordsPassed (chosen s) = refuseSettings s ≡ 0
 
-bounded-passed : (k : ℕ) (s : Settings) → refuseSettings s 0 ≡ k → WordsPassed (bounded k s)
+bounded-passed : (k : ℕ) (s : Settings) → refuseSettings s ≡ k → WordsPassed (bounded k s)
 unfolding bounded
 bounded-passed zero s e = e
 bounded-passed (suc k) s e = omega arith
@@ -57,10 +59,10 @@ words-passed (a ∷ b ∷ c ∷ d ∷ ds) = omega arith
 -- what is listed has settings and a table without fault, and a refusal has a number
 abbrev pub Answerable : Verdict → Type 0
 Answerable (refusal k line) = 0 < k
-Answerable (listing s n t) = (refuseSettings s 0 ≡ 0) × (refuseTable n t 0 ≡ 0)
+Answerable (listing s n t) = (refuseSettings s ≡ 0) × (refuseTable n t ≡ 0)
 
-reading-listable : (k : ℕ) (s : Settings) (r : TextReply) → refuseSettings s 0 ≡ 0
-    → (k ≡ 0 → refuseTable (r .vertices) (take (r .vertices * r .vertices) (r .slice)) 0 ≡ 0) → Answerable (byReading k s r)
+reading-listable : (k : ℕ) (s : Settings) (r : TextReply) → refuseSettings s ≡ 0
+    → (k ≡ 0 → refuseTable (r .vertices) (take (r .vertices * r .vertices) (r .slice)) ≡ 0) → Answerable (byReading k s r)
 unfolding byReading
 reading-listable zero s r h f = (h, f refl)
 reading-listable (suc k) s r h f = omega arith
@@ -155,7 +157,7 @@ prints-once words text = at-once (programVerdict words text)
 at-some : (x : Verdict) → Answerable x → (out : List ℕ) × PrintsAt x out
 unfolding PrintsAt
 at-some (refusal k line) l = (refusedLine k line, refl)
-at-some (listing s n t) l = let w = walk-ends (rules (byTable n t) s) n (table-lawful n t s (l .1)) in (_, (w .0, w .1, refl))
+at-some (listing s n t) l = let w = walk-ends (rules (byTable n t) s) n (lawful (byTable n t) (table-simple n t (l .1) .loopless) s) in (_, (w .0, w .1, refl))
 
 -- something is printed whatever the words and the text
 pub prints-some : (words : List (List ℕ)) (text : List ℕ) → (out : List ℕ) × Prints words text out
@@ -168,10 +170,10 @@ unfolding records recordOf
 no-records G s [] e = refl
 no-records G s (p ∷ ps) e = absurd (omega arith)
 
-module _ (s : Settings) (n : ℕ) (t : List ℕ) (valid : refuseTable n t 0 ≡ 0) (rs : List PageReply)
+module _ (s : Settings) (n : ℕ) (t : List ℕ) (valid : refuseTable n t ≡ 0) (rs : List PageReply)
     (chain : Chain (rules (byTable n t) s) (fresh n) rs) (ended : SomeFinished rs) where
   demand : Demand3 (rules (byTable n t) s) n rs
-  demand = chain-demand (rules (byTable n t) s) n (table-lawful n t s valid) rs chain
+  demand = chain-demand (rules (byTable n t) s) n (lawful (byTable n t) (table-simple n t valid .loopless) s) rs chain
 
   -- replies that end the walk have reported every group
   pub all-groups : allGroups rs ≡ length (fullSets (rules (byTable n t) s) n)

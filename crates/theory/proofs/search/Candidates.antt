@@ -11,8 +11,8 @@ use lib.ListN.{length, getD, take}
 use lib.Seq.{take-suc}
 use Rattle.model.specs.Graph.{Graph, degree}
 use Rattle.model.specs.Groups.{VertexSet, with-vertex}
-use Rattle.model.specs.Meaning.{Clique}
-use Rattle.theory.specs.Search.{Loopless, Symmetric, JoinsAll, Tally, joinedAll, Candidates}
+use Rattle.model.specs.Meaning.{Clique, Loopless, Symmetric}
+use Rattle.theory.specs.Search.{JoinsAll, Tally, joinedAll, Candidates}
 use Rattle.theory.proofs.basics.Tests.{Test, test-and, test-self, fails}
 use Rattle.theory.proofs.graph.Cliques.{with-test, same-vertex, joins-new, joins-clique, common-test}
 use Rattle.theory.proofs.graph.Degrees.{tally-add}

@@ -11,8 +11,8 @@ use lib.ListN.{length}
 use Rattle.model.specs.Below.{count, total}
 use Rattle.model.specs.Graph.{Graph, degree}
 use Rattle.model.specs.Groups.{Factor, VertexSet, sizeOf, outside, outgoing, with-vertex}
-use Rattle.model.specs.Meaning.{In, Clique}
-use Rattle.theory.specs.Search.{Loopless, Symmetric, Tally, degreeSum, largestDegree, isolatedBy, joinedAll, findLarger, hopeless, find, findCut, Listed, Candidates}
+use Rattle.model.specs.Meaning.{In, Clique, Loopless, Symmetric}
+use Rattle.theory.specs.Search.{Tally, degreeSum, largestDegree, isolatedBy, joinedAll, findLarger, hopeless, find, findCut, Listed, Candidates}
 use Rattle.theory.proofs.basics.Tests.{test-not, trichotomy, fails, passes-or-fails}
 use Rattle.theory.proofs.basics.Counting.{count-sub}
 use Rattle.theory.proofs.graph.Factor.{under-test, under-mono, under-wider}

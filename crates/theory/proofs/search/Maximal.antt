@@ -11,8 +11,8 @@ use lib.Dec.{ltb}
 use Rattle.model.specs.Below.{any}
 use Rattle.model.specs.Graph.{Graph}
 use Rattle.model.specs.Groups.{Factor, Settings, VertexSet, isolated, with-vertex, someLarger, rival, qualifies}
-use Rattle.model.specs.Meaning.{Clique, Isolated}
-use Rattle.theory.specs.Search.{Loopless, Symmetric, common, Tally, isolatedBy, Candidates, searched, beaten}
+use Rattle.model.specs.Meaning.{Clique, Isolated, Loopless, Symmetric}
+use Rattle.theory.specs.Search.{common, Tally, isolatedBy, Candidates, searched, beaten}
 use Rattle.theory.proofs.basics.Tests.{Test, test-agree, test-self, test-lt, test-any, fails, passes-or-fails}
 use Rattle.theory.proofs.graph.Meaning.{isolated-test, isolatedClique-test, rivals, rivals-test, qualifies-iff}
 use Rattle.theory.proofs.graph.Cliques.{joins-larger, joins-clique, common-test, further-common}

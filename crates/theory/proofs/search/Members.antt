@@ -12,8 +12,8 @@ use lib.Seq.{take-suc, take-length, length-take-le, getD-take}
 use Rattle.model.specs.Below.{count}
 use Rattle.model.specs.Graph.{Graph, degree}
 use Rattle.model.specs.Groups.{VertexSet, sizeOf, with-vertex}
-use Rattle.model.specs.Meaning.{In}
-use Rattle.theory.specs.Search.{Loopless, common, gather, degreeSum, leastDegree, largestDegree, Tally, joinedAll, Listed, among, Members}
+use Rattle.model.specs.Meaning.{In, Loopless}
+use Rattle.theory.specs.Search.{common, gather, degreeSum, leastDegree, largestDegree, Tally, joinedAll, Listed, among, Members}
 use Rattle.theory.proofs.basics.Tests.{Test, test-agree, test-eq, test-any, test-self, fails}
 use Rattle.theory.proofs.graph.Cliques.{with-test, common-test, joins-new}
 use Rattle.theory.proofs.graph.Degrees.{size-same, sum-same, least-same, largest-same, tally-add}

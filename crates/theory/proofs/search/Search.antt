@@ -8,8 +8,8 @@ use mathlib.Core.Logic.{_⊎_, inl, inr, ⊎-elim}
 use native.Mathlib.Omega.{arith}
 use Rattle.model.specs.Graph.{Graph, degree}
 use Rattle.model.specs.Groups.{Factor, VertexSet, isolated, larger, with-vertex, isolatedClique, someLarger, rival}
-use Rattle.model.specs.Meaning.{In, Clique, Isolated, IsolatedClique, Larger}
-use Rattle.theory.specs.Search.{Loopless, Symmetric, JoinsAll, Tally, isolatedBy, joinedAll, find, findLarger, Listed, Candidates}
+use Rattle.model.specs.Meaning.{In, Clique, Isolated, IsolatedClique, Larger, Loopless, Symmetric}
+use Rattle.theory.specs.Search.{JoinsAll, Tally, isolatedBy, joinedAll, find, findLarger, Listed, Candidates}
 use Rattle.theory.proofs.basics.Tests.{Test, test-agree, test-and, test-or, test-self, passes-or-fails}
 use Rattle.theory.proofs.graph.Meaning.{isolated-test, larger-test, isolated-same, rivals, rivals-test}
 use Rattle.theory.proofs.graph.Cliques.{with-test, same-vertex, joins-new, joins-larger, further-joins, further-common}

@@ -19,7 +19,7 @@ use Rattle.model.specs.EdgeText.{Line, edge, HasPair, Ends, Table, EdgeText}
 use Rattle.theory.proofs.basics.Tests.{Test, test-and, test-lt, test-self}
 use Rattle.theory.proofs.graph.Table.{joined-at}
 use Rattle.theory.proofs.calls.Fault.{none-of}
-use Rattle.theory.proofs.calls.Faults.{table-accepted-iff}
+use Rattle.theory.proofs.calls.TableFaults.{table-accepted-iff}
 use Rattle.theory.proofs.text.EdgeTextTable.{Cell, cell-of, joins-or-not, joins-swap, byte-test}
 use Rattle.theory.proofs.text.EdgeText.{accepted-reply, accepted-iff}
 
@@ -67,7 +67,7 @@ module _ (n : ℕ) (xs : List Line) (t : List ℕ) (a : Table n xs t) (ends : (u
       go (inr f) = a .apart u v hu hv f ∙ sym (a .apart v u hv hu (λ j. f (joins-swap xs (suc v) (suc u) j)))
 
   -- the checks 1 to 5 pass
-  table-accepted : n ≤ 1024 → refuseTable n t 0 ≡ 0
+  table-accepted : n ≤ 1024 → refuseTable n t ≡ 0
   table-accepted small =
       table-accepted-iff n t .1
       (none-of (tableFaults n t)
@@ -78,7 +78,7 @@ module _ (n : ℕ) (xs : List Line) (t : List ℕ) (a : Table n xs t) (ends : (u
       (λ h. h .4 (mirrored (h .0) (h .1) (h .2) (h .3))))
 
 -- no page call or set query refuses the table of an accepted text, and its graph is the text's
-pub read-graph-accepted : (room : ℕ) (text : List ℕ) (n m : ℕ) (t : List ℕ) → EdgeText room text n m t → refuseTable n t 0 ≡ 0
+pub read-graph-accepted : (room : ℕ) (text : List ℕ) (n m : ℕ) (t : List ℕ) → EdgeText room text n m t → refuseTable n t ≡ 0
 read-graph-accepted room text n m t g = table-accepted n (g .said) t (g .table) (g .drawn .ends) (g .drawn .small)
 
 -- vertices are joined exactly where the text joins them
@@ -107,12 +107,12 @@ read-graph-one slice text n m a b t s g h = (size, ap (λ (r : TextReply). r .st
 
 -- the first N × N bytes after an accepted text are a table with none of the faults 1 to 5
 pub read-table-accepted : (text slice : List ℕ) → readText text slice .refused ≡ 0
-    → refuseTable (readText text slice .vertices) (take (readText text slice .vertices * readText text slice .vertices) (readText text slice .slice)) 0 ≡ 0
+    → refuseTable (readText text slice .vertices) (take (readText text slice .vertices * readText text slice .vertices) (readText text slice .slice)) ≡ 0
 read-table-accepted text slice e = go (accepted-iff text slice .0 e)
   where
     go : (n : ℕ) × (m : ℕ) × (t : List ℕ) × EdgeText (length slice) text n m t
-        → refuseTable (readText text slice .vertices) (take (readText text slice .vertices * readText text slice .vertices) (readText text slice .slice)) 0 ≡ 0
+        → refuseTable (readText text slice .vertices) (take (readText text slice .vertices * readText text slice .vertices) (readText text slice .slice)) ≡ 0
     go (n, m, t, g) =
-        ap (λ (r : TextReply). refuseTable (r .vertices) (take (r .vertices * r .vertices) (r .slice)) 0) (accepted-reply text slice n m t g)
-        ∙ ap (λ (s : List ℕ). refuseTable n s 0) (take-at t (drop (n * n) slice) (n * n) (g .table .size))
+        ap (λ (r : TextReply). refuseTable (r .vertices) (take (r .vertices * r .vertices) (r .slice))) (accepted-reply text slice n m t g)
+        ∙ ap (λ (s : List ℕ). refuseTable n s) (take-at t (drop (n * n) slice) (n * n) (g .table .size))
         ∙ read-graph-accepted (length slice) text n m t g

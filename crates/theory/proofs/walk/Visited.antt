@@ -14,7 +14,7 @@ use Rattle.model.specs.Calls.{over, gap, reopened, refusePosition}
 use Rattle.theory.proofs.basics.Tests.{fails}
 use Rattle.theory.proofs.walk.Remaining.{Valid, Fit, Completes, open-no-taken, open-zero, fresh-open, fresh-valid, retreat-deep, retreat-here}
 use Rattle.theory.proofs.walk.Walk.{Lawful, step-down, step-up, decided-up, after-add}
-use Rattle.theory.proofs.calls.PageAccepted.{refuse-pass}
+use Rattle.theory.proofs.basics.Refusals.{refuse-pass}
 use Rattle.theory.proofs.walk.Accepted.{open-fresh, Lived, reopened-under, walk-accepted}
 
 -- ---- decided ranks, followed by others

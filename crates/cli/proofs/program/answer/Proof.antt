@@ -24,7 +24,7 @@ slice-aggregate-list c =
 list-requires : tie.Need-list-requires
 list-requires c κs =
     let f = graph-fine (c .before .before .n .given .1) (c .before .before .before .before .before .judge .ensures) in
-    record { few = f .0; table = f .2; settings = c .before .before .before .before .before .before .before .before .before .before .before .pre }
+    record { few = f .0; no-fault = f .2; settings = c .before .before .before .before .before .before .before .before .before .before .before .pre }
 
 returns-2 : tie.Need-returns-2
 returns-2 c = search needs

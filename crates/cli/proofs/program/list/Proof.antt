@@ -20,7 +20,7 @@ list-all-requires c κs =
     let h = c .before .before .before .before .before .before .before .before .pre in
     let few = h .few in
     record {
-      table = h .table;
+      no-fault = h .no-fault;
       settings = h .settings;
       start = fresh-part (a .n) 256 (omega arith);
       output = omega (arith, c .before .before .before .before .before .before .output-room .ensures);

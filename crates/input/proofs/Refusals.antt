@@ -1,0 +1,74 @@
+-- The refusals 1 to 10 in their order, and what passes them.
+-- Assumes nothing.
+use Prim.Native.Nat.{ℕ, _*_, _≤_, _<_}
+use mathlib.Core.Path.{_≡_, sym, _∙_}
+use mathlib.Core.List.{List}
+use mathlib.Core.Logic.{_≢_}
+use borrow.Author.Tests.{lt-ltb, le-ltb, eq-eqb, ne-eqb}
+use Rattle.model.specs.Graph.{LentGraph}
+use Rattle.model.specs.Groups.{Settings}
+use Rattle.model.specs.Meaning.{Simple}
+use Rattle.model.specs.Calls.{refuse, refuseSettings, refuseLengths, refuseInput}
+use Rattle.theory.proofs.basics.Refusals.{else-none, else-found}
+use Rattle.theory.proofs.calls.Acceptance.{input-accepted-iff}
+use Rattle.graph.specs.Table.{TableFits, lent, graphOf}
+use Rattle.graph.proofs.Refusals.{table-fits, lent-simple}
+use Rattle.isolation.proofs.Refusals.{factor-small}
+
+module _ (L : LentGraph) (s : Settings) (bytes work : ℕ) where
+  -- ---- test by test
+
+  -- the table has a fault
+  pub by-table : {r : ℕ} → r ≡ L .fault → r ≢ 0 → r ≡ refuseInput L s bytes work
+  unfolding refuseInput
+  by-table e d = e ∙ sym (else-found (λ z. d (e ∙ z)) _)
+
+  -- it has none
+  module _ {a : ℕ} (table : a ≡ L .fault) (fine : a ≡ 0) where
+    -- the settings have a fault
+    pub by-settings : {r : ℕ} → r ≡ refuseSettings s → r ≢ 0 → r ≡ refuseInput L s bytes work
+    unfolding refuseInput
+    by-settings e d = e ∙ sym (else-none (sym table ∙ fine) _ ∙ else-found (λ z. d (e ∙ z)) _)
+
+    -- nor have they
+    module _ {b : ℕ} (proper : b ≡ refuseSettings s) (in-range : b ≡ 0) where
+      by-lengths : refuseInput L s bytes work ≡ refuseLengths (L .graph .size) bytes work
+      unfolding refuseInput
+      by-lengths = else-none (sym table ∙ fine) _ ∙ else-none (sym proper ∙ in-range) _
+
+      -- a position or set of another length
+      pub by-bytes : bytes ≢ L .graph .size → 9 ≡ refuseInput L s bytes work
+      unfolding refuseLengths refuse
+      by-bytes d = sym (by-lengths ∙ rw (ne-eqb bytes (L .graph .size) d))
+
+      -- a work slice that is too short
+      pub by-work : bytes ≡ L .graph .size → work < 8 * L .graph .size → 10 ≡ refuseInput L s bytes work
+      unfolding refuseLengths refuse
+      by-work e l = sym (by-lengths ∙ rw (eq-eqb bytes (L .graph .size) e, lt-ltb work (8 * L .graph .size) l))
+
+      -- no fault
+      pub by-none : bytes ≡ L .graph .size → 8 * L .graph .size ≤ work → 0 ≡ refuseInput L s bytes work
+      unfolding refuseLengths refuse
+      by-none e l = sym (by-lengths ∙ rw (eq-eqb bytes (L .graph .size) e, le-ltb work (8 * L .graph .size) l))
+
+-- ---- what passes them
+
+-- what a call has that passes 1 to 10
+pub record InputPassed (n : ℕ) (t : List ℕ) (s : Settings) (bytes work : ℕ) : Type 0 where
+  pub fits : TableFits n t
+  pub simple : Simple (graphOf n t)
+  pub factor : s .factor ≤ 1024
+  pub long : bytes ≡ n
+  pub enough : 8 * n ≤ work
+
+-- a call that passes them has it
+pub input-passed : (n : ℕ) (t : List ℕ) (s : Settings) (bytes work : ℕ) → refuseInput (lent n t) s bytes work ≡ 0 → InputPassed n t s bytes work
+input-passed n t s bytes work e =
+    let a = input-accepted-iff (lent n t) s bytes work .0 e in
+    record {
+      fits = table-fits n t (a .no-fault);
+      simple = lent-simple n t (a .no-fault);
+      factor = factor-small s (a .proper);
+      long = a .long;
+      enough = a .enough;
+    }
