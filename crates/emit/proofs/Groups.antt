@@ -8,9 +8,10 @@ use native.Mathlib.Omega.{arith}
 use lib.ListN.{length, take, drop, set, length-drop}
 use lib.Seq.{paste, take-suc-set, drop-set-lt, drop-length, take-all, drop-drop}
 use borrow.Rule.Slice.PartMut.{putMid, post-is}
+use Rattle.model.specs.Listing.{recordLength}
 
 -- the size and then the members, written over the start of d
-pub group-put : (d s : List ℕ) (k : ℕ) → 0 < length d → length s ≡ k → paste (set d 0 k) 1 s k ≡ (k ∷ s) ++ drop (k + 1) d
+pub group-put : (d s : List ℕ) (k : ℕ) → 0 < length d → length s ≡ k → paste (set d 0 k) 1 s k ≡ (k ∷ s) ++ drop (recordLength k) d
 group-put d s k h e =
     ap (λ (p : List ℕ). p ++ take k s ++ drop (1 + k) (set d 0 k)) (take-suc-set d 0 k h)
     ∙ ap (λ (r : List ℕ). (k ∷ r) ++ drop (1 + k) (set d 0 k)) (take-all k s (omega arith))

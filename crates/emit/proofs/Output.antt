@@ -10,7 +10,7 @@ use lib.ListN.{length, take, drop, take-append-drop}
 use Rattle.model.specs.Below.{bit}
 use Rattle.model.specs.Graph.{Graph}
 use Rattle.model.specs.Walk.{Position, Rules, found, due}
-use Rattle.model.specs.Listing.{takenList, rules}
+use Rattle.model.specs.Listing.{takenList, rules, recordLength}
 use Rattle.isolation.specs.declared.Settings.{Settings}
 use Rattle.isolation.specs.Numbers.{settingsOf}
 use Rattle.state.specs.declared.State.{State}
@@ -56,11 +56,11 @@ module _ {n : ℕ} {t ranks w w₁ : List ℕ} {q : Settings} {s : State} {b : B
     due-here : (p : Position) (st : Stands G p w s) → due R p ≡ s .taken ∷ takenList G p
     due-here p st = due-found G (settingsOf q) p (found-here p st) ∙ ap (λ (k : ℕ). k ∷ takenList G p) (length-taken a p st)
 
-    due-long : (p : Position) (st : Stands G p w s) → length (due R p) ≡ s .taken + 1
+    due-long : (p : Position) (st : Stands G p w s) → length (due R p) ≡ recordLength (s .taken)
     due-long p st = let l = length-taken a p st in let d : length (due R p) ≡ suc (length (takenList G p)) = ap length (due-here p st) in omega arith
 
     -- the group does not fit
-    pub emitted-full : used ≤ length out → length out - used < s .taken + 1 → (k : ℕ) → k ≡ s .taken + 1
+    pub emitted-full : used ≤ length out → length out - used < recordLength (s .taken) → (k : ℕ) → k ≡ recordLength (s .taken)
         → Emitted n t w w₁ q s used out out (record { full = true; used = used; groups = 0; wanted = k })
     emitted-full h l k m =
         record {
@@ -77,10 +77,10 @@ module _ {n : ℕ} {t ranks w w₁ : List ℕ} {q : Settings} {s : State} {b : B
         }
 
     -- it fits, and is written
-    pub emitted-put : used + s .taken + 1 ≤ length out → (next : List ℕ)
-        → next ≡ take used out ++ (s .taken ∷ part w₁ n (s .taken)) ++ drop (used + s .taken + 1) out
-        → Emitted n t w w₁ q s used out next (record { full = false; used = used + s .taken + 1; groups = 1; wanted = 0 })
-    emitted-put l next f =
+    pub emitted-put : used + recordLength (s .taken) ≤ length out → (k : ℕ) → k ≡ recordLength (s .taken) → (next : List ℕ)
+        → next ≡ take used out ++ (s .taken ∷ part w₁ n (s .taken)) ++ drop (used + recordLength (s .taken)) out
+        → Emitted n t w w₁ q s used out next (record { full = false; used = used + k; groups = 1; wanted = 0 })
+    emitted-put l k m next f =
         record {
           put = λ p st.
               let d = due-long p st in
@@ -95,9 +95,8 @@ module _ {n : ℕ} {t ranks w w₁ : List ℕ} {q : Settings} {s : State} {b : B
         }
       where
         same : (p : Position) (st : Stands G p w s)
-            → take used out ++ (s .taken ∷ part w₁ n (s .taken)) ++ drop (used + s .taken + 1) out ≡ take used out ++ due R p ++ drop (used + length (due R p)) out
+            → take used out ++ (s .taken ∷ part w₁ n (s .taken)) ++ drop (used + recordLength (s .taken)) out ≡ take used out ++ due R p ++ drop (used + length (due R p)) out
         same p st =
-            let d = due-long p st in
-            let u : used + s .taken + 1 ≡ used + length (due R p) = omega arith in
             let es : s .taken ∷ part w₁ n (s .taken) ≡ due R p = ap (λ (vs : List ℕ). s .taken ∷ vs) (j .stands p st .vertices) ∙ sym (due-here p st) in
-            ap (λ (x : List ℕ). take used out ++ x ++ drop (used + s .taken + 1) out) es ∙ ap (λ (m : ℕ). take used out ++ due R p ++ drop m out) u
+            ap (λ (x : List ℕ). take used out ++ x ++ drop (used + recordLength (s .taken)) out) es
+            ∙ ap (λ (m : ℕ). take used out ++ due R p ++ drop (used + m) out) (sym (due-long p st))

@@ -3,6 +3,7 @@ ghost use mathlib.Core.Path.{_≡_};
 ghost use mathlib.Core.List.{_∷_, _++_};
 ghost use Prim.Native.Nat.{_+_, _≤_};
 ghost use lib.ListN.{length, take, drop};
+ghost use Rattle.model.specs.Listing.{recordLength};
 ghost use Rattle.theory.specs.Parts.{part};
 
 // The entry for a group's size: at most 1,024 vertices, so it fits 16 bits.
@@ -13,12 +14,20 @@ fn size_entry(k: usize) -> u16
     k as u16
 }
 
+// The entries that the record of a group of k vertices takes.
+pub fn record_length(k: usize) -> usize
+    requires { ⌜ k ≤ 1024 ⌝ }
+    ensures { λ r. ⌜ r ≡ recordLength k ⌝ }
+{
+    k + 1
+}
+
 // Writes a group of k vertices at the start of out: its size and then the k vertices that stand in work from entry `from` on. The rest of out keeps
 // its contents.
 // Document 01, "A page", point 4: a group is its size and then its vertices in rank order.
 fn write_group(out: &mut [u16], work: &[u16], from: usize, k: usize)
-    requires { ⌜ (k + 1 ≤ length (now out)) × (from + k ≤ length (now work)) × (k ≤ 1024) ⌝ }
-    ensures { λ _. ⌜ now (out .exit) ≡ (k ∷ part (now (work .entry)) from k) ++ drop (k + 1) (now (out .entry)) ⌝ }
+    requires { ⌜ (recordLength k ≤ length (now out)) × (from + k ≤ length (now work)) × (k ≤ 1024) ⌝ }
+    ensures { λ _. ⌜ now (out .exit) ≡ (k ∷ part (now (work .entry)) from k) ++ drop (recordLength k) (now (out .entry)) ⌝ }
 {
     out[0] = size_entry(k);
     let mut i = 0;
@@ -32,10 +41,10 @@ fn write_group(out: &mut [u16], work: &[u16], from: usize, k: usize)
 // `write_group`.
 // Document 01, "A page", point 4: the group goes right after the entries already used.
 pub fn put_group(output: &mut [u16], used: usize, work: &[u16], from: usize, k: usize)
-    requires { ⌜ (used + k + 1 ≤ length (now output)) × (from + k ≤ length (now work)) × (k ≤ 1024) ⌝ }
+    requires { ⌜ (used + recordLength k ≤ length (now output)) × (from + k ≤ length (now work)) × (k ≤ 1024) ⌝ }
     ensures { λ _. ⌜
         now (output .exit)
-        ≡ take used (now (output .entry)) ++ (k ∷ part (now (work .entry)) from k) ++ drop (used + k + 1) (now (output .entry))
+        ≡ take used (now (output .entry)) ++ (k ∷ part (now (work .entry)) from k) ++ drop (used + recordLength k) (now (output .entry))
         ⌝ }
 {
     let start = used;

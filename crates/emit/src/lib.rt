@@ -6,6 +6,7 @@ ghost use lib.ListN.{length};
 ghost use Rattle.qualify.specs.Qualify.{Asks};
 ghost use Rattle.emit.specs.Emit.{Emitted};
 use crate::group::put_group;
+use crate::group::record_length;
 use isolation::Settings;
 use qualify::qualifies;
 use state::State;
@@ -21,7 +22,7 @@ pub struct Put {
 
 // Puts the group of the position that the state and the work slice stand for right after the used entries of the output, where there is one and it fits;
 // else writes nothing of the output.
-// Document 01, "A page", point 3: a group whose size + 1 exceeds the unused entries is not written, and so many are wanted; point 4: else it is.
+// Document 01, "A page", point 3: a group whose record exceeds the unused entries is not written, and so many are wanted; point 4: else it is.
 pub fn emit(
     s: State,
     q: Settings,
@@ -44,18 +45,19 @@ pub fn emit(
             wanted: 0,
         };
     }
-    if output.len() - used < k + 1 {
+    let entries = record_length(k);
+    if output.len() - used < entries {
         return Put {
             full: true,
             used,
             groups: 0,
-            wanted: k + 1,
+            wanted: entries,
         };
     }
     put_group(output, used, work, n, k);
     Put {
         full: false,
-        used: used + k + 1,
+        used: used + entries,
         groups: 1,
         wanted: 0,
     }

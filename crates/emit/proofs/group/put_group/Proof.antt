@@ -1,9 +1,8 @@
 -- `emit::group::put_group` meets its contract: the unused part of the output, lent from its middle, comes back with the group at its start.
 -- Assumes nothing.
-use Prim.Native.Nat.{_+_}
-use mathlib.Core.Path.{_≡_, _∙_}
 use mathlib.Core.List.{_∷_}
 use native.Mathlib.Omega.{arith}
+use Rattle.model.specs.Listing.{recordLength}
 use Rattle.theory.specs.Parts.{part}
 use Rattle.emit.proofs.Groups.{tail-at}
 use borrow.Author.Needs.{needs}
@@ -14,10 +13,8 @@ returns : tie.Need-returns
 returns c =
     let b = c .before .before .before .before .before .before in
     let a = b .args in
-    let n : a .used + (a .k + 1) ≡ a .used + a .k + 1 = omega arith in
-    tail-at (a .output .now) (a .k ∷ part (a .work .now) (a .from) (a .k)) (c .before .before .write-group .last .0) (a .used) (a .k + 1) (omega arith)
+    tail-at (a .output .now) (a .k ∷ part (a .work .now) (a .from) (a .k)) (c .before .before .write-group .last .0) (a .used) (recordLength (a .k)) (omega arith)
     (c .before .before .write-group .ensures)
-    ∙ rw n
 
 pub put-group-spec : {M : Type 1} → statement M
 put-group-spec =
