@@ -30,12 +30,13 @@ module _ (G : Graph) (v : ℕ) (w : List ℕ) (a b : ℕ) (order : a ≤ b) (fit
       start : a - a ≡ 0
       start = omega arith
 
-  pub all-more : (i : ℕ) → a ≤ i → i < b → joinedAll G v (take (i - a) all-between) ≡ true → G .joined v (getD w i 0) ≡ true
+  -- the vertex u at place i is joined, or is not
+  pub all-more : (i : ℕ) → a ≤ i → i < b → joinedAll G v (take (i - a) all-between) ≡ true → {u : ℕ} → u ≡ getD w i 0 → G .joined v u ≡ true
       → joinedAll G v (take (i + 1 - a) all-between) ≡ true
-  all-more i h l e j =
+  all-more i h l e r j =
       ap (λ (k : ℕ). joinedAll G v (take k all-between)) next
       ∙ joined-more G v all-between (i - a) (within-list i h l)
-      ∙ both _ _ e (ap (G .joined v) (place i h l) ∙ j)
+      ∙ both _ _ e (ap (G .joined v) (place i h l ∙ sym r) ∙ j)
     where
       next : i + 1 - a ≡ i - a + 1
       next = omega arith
@@ -43,8 +44,8 @@ module _ (G : Graph) (v : ℕ) (w : List ℕ) (a b : ℕ) (order : a ≤ b) (fit
       both : (x y : Bool) → x ≡ true → y ≡ true → (x && y) ≡ true
       both x y e f = rw (e, f)
 
-  pub all-apart : (i : ℕ) → a ≤ i → i < b → G .joined v (getD w i 0) ≡ false → joinedAll G v all-between ≡ false
-  all-apart i h l j = joined-apart G v all-between (i - a) (within-list i h l) (ap (G .joined v) (place i h l) ∙ j)
+  pub all-apart : (i : ℕ) → a ≤ i → i < b → {u : ℕ} → u ≡ getD w i 0 → G .joined v u ≡ false → joinedAll G v all-between ≡ false
+  all-apart i h l r j = joined-apart G v all-between (i - a) (within-list i h l) (ap (G .joined v) (place i h l ∙ sym r) ∙ j)
 
   pub all-end : (i : ℕ) → b ≤ i → i ≤ b → joinedAll G v (take (i - a) all-between) ≡ true → joinedAll G v all-between ≡ true
   all-end i h l e =

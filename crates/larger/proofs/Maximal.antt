@@ -13,7 +13,7 @@ use Rattle.model.specs.Graph.{Graph, degree}
 use Rattle.model.specs.Groups.{VertexSet, sizeOf}
 use Rattle.theory.specs.Search.{gather, degreeSum, findLarger, searched, beaten}
 use Rattle.theory.proofs.search.Cut.{search-cut}
-use Rattle.graph.proofs.Table.{table-size, table-degree}
+use Rattle.graph.proofs.Table.{table-degree}
 use Rattle.isolation.specs.declared.Settings.{Settings}
 use Rattle.isolation.specs.declared.Tally.{Tally}
 use Rattle.isolation.specs.Numbers.{findOf, beatenOf}
@@ -83,7 +83,6 @@ module _ {n : ℕ} {t ranks w : List ℕ} {s : Settings} {y : Tally} {m : ℕ} (
             let l = all-candidates in
             let a = posed .candidates .sound e (omega arith) .0 in
             let p = part-at w (3 * n) m e h in
-            let z = table-size n t in
             omega arith;
       }
 

@@ -12,7 +12,7 @@ use Rattle.model.specs.Graph.{Graph, degree}
 use Rattle.theory.specs.Search.{joinedAll}
 use Rattle.theory.proofs.basics.Tests.{trichotomy}
 use Rattle.theory.proofs.search.Steps.{cut-end, cut-hopeless, cut-apart, cut-here, cut-deeper, cut-next}
-use Rattle.graph.proofs.Table.{table-degree}
+use Rattle.ranks.specs.Ranks.{ReadsDegree}
 use Rattle.isolation.specs.declared.Settings.{Settings}
 use Rattle.isolation.specs.declared.Tally.{Tally}
 use Rattle.isolation.specs.Numbers.{withMember, isolatedOf, hopelessOf, findOf}
@@ -52,12 +52,9 @@ module _ {n : ℕ} {t ranks w₀ : List ℕ} {s : Settings} {y : Tally} {base i 
   abbrev candidates : List ℕ
   candidates = candidatesIn n w₀ m
 
-  abbrev candidate : ℕ
-  candidate = getD w (3 * n + j) 0
-
-  -- whether it is joined to those added
-  abbrev joins-added : Bool
-  joins-added = joinedAll graph candidate (part w (n + base) (n + y .members - (n + base)))
+  -- whether v is joined to those added
+  abbrev joins-added : ℕ → Bool
+  joins-added v = joinedAll graph v (part w (n + base) (n + y .members - (n + base)))
 
   all-candidates : length candidates ≡ m
   all-candidates = let l = at .lent .parts in let f = room .few in part-length w₀ (3 * n) m (omega arith)
@@ -88,18 +85,6 @@ module _ {n : ℕ} {t ranks w₀ : List ℕ} {s : Settings} {y : Tally} {base i 
   added-vertices e h = let k = at .kept .below (n + base + e) (omega arith) in let l = room .added e (omega arith) in omega arith
 
   module _ (inside : j < m) where
-    is-candidate : getD candidates j 0 ≡ candidate
-    is-candidate = part-at w₀ (3 * n) m j inside ∙ sym (at .kept .above (3 * n + j) (omega arith))
-
-    pub candidate-vertex : candidate < n
-    candidate-vertex = let k = at .kept .above (3 * n + j) (omega arith) in let l = room .candidates j inside in omega arith
-
-    degree-is : getD ranks (n + candidate) 0 ≡ degree graph (getD candidates j 0)
-    degree-is = at .lent .degrees candidate candidate-vertex ∙ ap (degree graph) (sym is-candidate)
-
-    pub degree-small : getD ranks (n + candidate) 0 ≤ n
-    degree-small = let d = at .lent .degrees candidate candidate-vertex in let l = table-degree n t candidate in omega arith
-
     in-list : j < length candidates
     in-list = let l = all-candidates in omega arith
 
@@ -110,47 +95,69 @@ module _ {n : ℕ} {t ranks w₀ : List ℕ} {s : Settings} {y : Tally} {base i 
     pub at-hopeless : hopelessOf s y (m - j) ≡ true → Searched n t w₀ w s y base i m false
     at-hopeless e = says (at .kept) (cut-hopeless _ _ _ _ _ _ _ _ candidates j in-list (ap (λ (r : ℕ). hopelessOf s y r) left ∙ e))
 
-    module _ (hope : hopelessOf s y (m - j) ≡ false) where
-      hope-left : hopelessOf s y (length candidates - j) ≡ false
-      hope-left = ap (λ (r : ℕ). hopelessOf s y r) left ∙ hope
+    -- candidate j is read
+    module _ {v : ℕ} (read : v ≡ getD w (3 * n + j) 0) where
+      is-candidate : getD candidates j 0 ≡ v
+      is-candidate = part-at w₀ (3 * n) m j inside ∙ sym (read ∙ at .kept .above (3 * n + j) (omega arith))
 
-      joined-is : (b : Bool) → b ≡ joins-added → joinedAll graph (getD candidates j 0) added ≡ b
-      joined-is b e = ap (λ (v : ℕ). joinedAll graph v added) is-candidate ∙ ap (joinedAll graph candidate) (sym still-added) ∙ sym e
+      pub candidate-vertex : v < n
+      candidate-vertex = let k = at .kept .above (3 * n + j) (omega arith) in let l = room .candidates j inside in omega arith
 
-      -- passed over, where it is not joined to those added
-      pub at-apart : false ≡ joins-added → At n t ranks w₀ s y base i m w (j + 1)
-      at-apart e = passes (at .kept) (cut-apart _ _ _ _ _ _ _ _ candidates j in-list hope-left (joined-is false e))
+      module _ (hope : hopelessOf s y (m - j) ≡ false) where
+        hope-left : hopelessOf s y (length candidates - j) ≡ false
+        hope-left = ap (λ (r : ℕ). hopelessOf s y r) left ∙ hope
 
-  -- candidate j is added: it is there, a set with the candidates left may be isolated, it is joined to those added, and z has the numbers with it
-  pub record Adds (z : Tally) : Type 0 where
+        joined-is : (b : Bool) → b ≡ joins-added v → joinedAll graph (getD candidates j 0) added ≡ b
+        joined-is b e = ap (λ (u : ℕ). joinedAll graph u added) is-candidate ∙ ap (joinedAll graph v) (sym still-added) ∙ sym e
+
+        -- passed over, where it is not joined to those added
+        pub at-apart : false ≡ joins-added v → At n t ranks w₀ s y base i m w (j + 1)
+        at-apart e = passes (at .kept) (cut-apart _ _ _ _ _ _ _ _ candidates j in-list hope-left (joined-is false e))
+
+  -- candidate j, read as v and of degree d, is added: it is there, a set with the candidates left may be isolated, it is joined to those added, and z has
+  -- the numbers with it
+  pub record Adds (v d : ℕ) (z : Tally) : Type 0 where
     pub inside : j < m
     pub hope : hopelessOf s y (m - j) ≡ false
-    pub joins : true ≡ joins-added
-    pub more : z ≡ withMember y (getD ranks (n + candidate) 0)
+    pub read : v ≡ getD w (3 * n + j) 0
+    pub joins : true ≡ joins-added v
+    pub degree : ReadsDegree n ranks v d
+    pub more : z ≡ withMember y d
 
-  module _ {z : Tally} (adds : Adds z) where
+  module _ {v d : ℕ} {z : Tally} (adds : Adds v d z) where
     abbrev inside : j < m
     inside = adds .inside
 
+    pub added-vertex : v < n
+    added-vertex = candidate-vertex inside (adds .read)
+
+    degree-is : (d ≡ degree graph v) × (d ≤ n)
+    degree-is = adds .degree .degree graph refl (at .lent .degrees)
+
     with-degree : z ≡ withMember y (degree graph (getD candidates j 0))
-    with-degree = adds .more ∙ ap (withMember y) (degree-is inside)
+    with-degree = adds .more ∙ ap (withMember y) (degree-is .0 ∙ ap (degree graph) (sym (is-candidate inside (adds .read))))
+
+    hopeful : hopelessOf s y (length candidates - j) ≡ false
+    hopeful = hope-left inside (adds .read) (adds .hope)
+
+    joined : joinedAll graph (getD candidates j 0) added ≡ true
+    joined = joined-is inside (adds .read) (adds .hope) true (adds .joins)
 
     -- found, where the set with it is isolated
     pub at-here : true ≡ isolatedOf s z → Searched n t w₀ w s y base i m true
     at-here e =
         says (at .kept)
-        (cut-here _ _ _ _ _ _ _ _ candidates j (in-list inside) (hope-left inside (adds .hope)) (joined-is inside (adds .hope) true (adds .joins))
-        (ap (isolatedOf s) (sym with-degree) ∙ sym e))
+        (cut-here _ _ _ _ _ _ _ _ candidates j (in-list inside) hopeful joined (ap (isolatedOf s) (sym with-degree) ∙ sym e))
 
     -- the slice with it added, for the candidates after it
     abbrev taken : List ℕ
-    taken = set w (n + y .members) candidate
+    taken = set w (n + y .members) v
 
     fits : n + y .members < length w
     fits = omega arith
 
     taken-kept : Kept (n + y .members) (2 * n) w₀ taken
-    taken-kept = kept-set _ _ w₀ w (at .kept) (n + y .members) candidate (omega arith) (omega arith)
+    taken-kept = kept-set _ _ w₀ w (at .kept) (n + y .members) v (omega arith) (omega arith)
 
     pub lent-next : Lent n t ranks taken
     lent-next =
@@ -166,26 +173,25 @@ module _ {n : ℕ} {t ranks w₀ : List ℕ} {s : Settings} {y : Tally} {base i 
           where
             go : (e < y .members - base) ⊎ (e ≡ y .members - base) ⊎ (y .members - base < e) → getD taken (n + base + e) 0 < n
             go (inl l) =
-                let a = getD-set-other w (n + y .members) (n + base + e) candidate 0 (λ q. omega arith) in
+                let a = getD-set-other w (n + y .members) (n + base + e) v 0 (λ q. omega arith) in
                 let k = at .kept .below (n + base + e) (omega arith) in
-                let v = room .added e l in
+                let r = room .added e l in
                 omega arith
             go (inr (inl q)) =
                 let f = room .from in
                 let k : n + base + e ≡ n + y .members = omega arith in
-                let a = getD-set-same w (n + y .members) candidate 0 fits in
-                let v = candidate-vertex inside in
-                rw (k, a) v
+                let a = getD-set-same w (n + y .members) v 0 fits in
+                rw (k, a) added-vertex
             go (inr (inr l)) = absurd (omega arith)
 
-        with-it : Room n taken s (withMember y (getD ranks (n + candidate) 0)) base from m
+        with-it : Room n taken s (withMember y d) base from m
         with-it =
             record {
               factor = room .factor;
               from = omega arith;
               left = omega arith;
               few = room .few;
-              sum = let d = degree-small inside in omega arith;
+              sum = let l = degree-is .1 in omega arith;
               added = added-next;
               candidates = λ e h. let k = taken-kept .above (3 * n + e) (omega arith) in let l = room .candidates e h in omega arith;
             }
@@ -200,10 +206,10 @@ module _ {n : ℕ} {t ranks w₀ : List ℕ} {s : Settings} {y : Tally} {base i 
       pushed =
           ap (λ (x : Tally). part taken (n + base) (x .members - base)) (adds .more)
           ∙ ap (part taken (n + base)) longer
-          ∙ ap (λ (e : ℕ). part (set w e candidate) (n + base) (y .members - base + 1)) (sym place)
-          ∙ part-push w (n + base) (y .members - base) candidate (let f = fits in omega arith)
-          ∙ ap (λ (l : List ℕ). l ++ (candidate ∷ [])) (part-below _ _ w₀ w (at .kept) (n + base) (y .members - base) (omega arith))
-          ∙ ap (λ (v : ℕ). added ++ (v ∷ [])) (sym (is-candidate inside))
+          ∙ ap (λ (e : ℕ). part (set w e v) (n + base) (y .members - base + 1)) (sym place)
+          ∙ part-push w (n + base) (y .members - base) v (let f = fits in omega arith)
+          ∙ ap (λ (l : List ℕ). l ++ (v ∷ [])) (part-below _ _ w₀ w (at .kept) (n + base) (y .members - base) (omega arith))
+          ∙ ap (λ (u : ℕ). added ++ (u ∷ [])) (sym (is-candidate inside (adds .read)))
         where
           longer : y .members + 1 - base ≡ y .members - base + 1
           longer = omega arith
@@ -223,10 +229,10 @@ module _ {n : ℕ} {t ranks w₀ : List ℕ} {s : Settings} {y : Tally} {base i 
       pub at-deeper : r ≡ true → Searched n t w₀ w₁ s y base i m true
       at-deeper e =
           says kept-deep
-          (cut-deeper _ _ _ _ _ _ _ _ candidates j (in-list inside) (hope-left inside (adds .hope)) (joined-is inside (adds .hope) true (adds .joins)) (sym answer-deep ∙ e))
+          (cut-deeper _ _ _ _ _ _ _ _ candidates j (in-list inside) hopeful joined (sym answer-deep ∙ e))
 
       -- passed over, where neither finds anything
       pub at-next : isolatedOf s z ≡ false → r ≡ false → At n t ranks w₀ s y base i m w₁ (j + 1)
       at-next e f =
           passes kept-deep
-          (cut-next _ _ _ _ _ _ _ _ candidates j (in-list inside) (hope-left inside (adds .hope)) (ap (isolatedOf s) (sym with-degree) ∙ e) (sym answer-deep ∙ f))
+          (cut-next _ _ _ _ _ _ _ _ candidates j (in-list inside) hopeful (ap (isolatedOf s) (sym with-degree) ∙ e) (sym answer-deep ∙ f))

@@ -1,17 +1,18 @@
 // The search for a larger isolated clique, and whether a clique is maximal of its kind.
 ghost use mathlib.Core.Path.{_≡_};
-ghost use Prim.Native.Nat.{_+_, _-_, _*_, _<_, _≤_, min, max};
+ghost use Prim.Native.Nat.{_-_, _<_, _≤_};
 ghost use lib.ListN.{length};
-ghost use Rattle.model.specs.Listing.{is};
 ghost use Rattle.theory.specs.Search.{joinedAll};
 ghost use Rattle.graph.specs.Table.{TableFits, graphOf};
 ghost use Rattle.theory.specs.Parts.{part, HoldsVertices};
 ghost use Rattle.larger.specs.Search.{Lent, Room, Searched, Posed, Tested};
+use graph::entry_at;
 use isolation::Settings;
 use isolation::Tally;
 use isolation::hopeless;
 use isolation::isolated_by;
 use isolation::with_member;
+use ranks::degree_at;
 
 // Whether v is joined to each vertex in entries from to to - 1 of work, in the graph on n vertices that the table holds. Reads v's row at these
 // vertices, up to the first that is not joined.
@@ -21,7 +22,7 @@ pub fn joined_to_all(table: &[u8], n: usize, work: &[u16], v: usize, from: usize
 {
     let mut i = from;
     while i < to {
-        let u = work[i] as usize;
+        let u = entry_at(work, i);
         if !graph::joined(table, n, v, u) {
             return false;
         }
@@ -56,16 +57,15 @@ fn search(
         if hopeless(s, y, m - j) {
             return false;
         }
-        let x = work[3 * n + j];
-        let v = x as usize;
+        let v = entry_at(work, 3 * n + j);
         j += 1;
         if joined_to_all(table, n, work, v, first, end) {
-            let d = ranks[n + v] as usize;
+            let d = degree_at(ranks, n, v);
             let z = with_member(y, d);
             if isolated_by(s, z) {
                 return true;
             }
-            work[end] = x;
+            work[end] = v as u16;
             if search(table, ranks, work, n, s, z, base, j, m) {
                 return true;
             }

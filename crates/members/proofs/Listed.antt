@@ -17,7 +17,7 @@ use Rattle.theory.specs.Search.{joinedAll, among, Members}
 use Rattle.theory.proofs.basics.Tests.{Test, test-all, test-self, trichotomy, fails}
 use Rattle.theory.proofs.search.Candidates.{joined-test}
 use Rattle.theory.proofs.search.Members.{tally-none, tally-next, tally-all}
-use Rattle.ranks.specs.Ranks.{HoldsDegrees}
+use Rattle.ranks.specs.Ranks.{HoldsDegrees, ReadsDegree}
 use Rattle.isolation.specs.declared.Tally.{Tally}
 use Rattle.isolation.specs.Numbers.{withMember, TallyOf}
 use Rattle.theory.specs.Parts.{part}
@@ -38,11 +38,12 @@ module _ (G : Graph) {w : List ℕ} {n k : ℕ} (held : HoldsMembers n w k) wher
   fits : n + k ≤ length w
   fits = omega arith
 
-  before-is : (i : ℕ) → i < k → joinedAll G (getD w (n + i) 0) (part w n (n + i - n)) ≡ joins-before G (part w n k) i
-  before-is i h =
-      ap (λ (m : ℕ). joinedAll G (getD w (n + i) 0) (part w n m)) short
-      ∙ ap (λ (l : List ℕ). joinedAll G (getD w (n + i) 0) l) (sym (part-take w n k i (omega arith)))
-      ∙ ap (λ (v : ℕ). joinedAll G v (take i (part w n k))) (sym (part-at w n k i h))
+  -- the member v at place i
+  before-is : (i : ℕ) → i < k → {v : ℕ} → v ≡ getD w (n + i) 0 → joinedAll G v (part w n (n + i - n)) ≡ joins-before G (part w n k) i
+  before-is i h {v} r =
+      ap (λ (m : ℕ). joinedAll G v (part w n m)) short
+      ∙ ap (λ (l : List ℕ). joinedAll G v l) (sym (part-take w n k i (omega arith)))
+      ∙ ap (λ (u : ℕ). joinedAll G u (take i (part w n k))) (r ∙ sym (part-at w n k i h))
     where
       short : n + i - n ≡ i
       short = omega arith
@@ -51,18 +52,18 @@ module _ (G : Graph) {w : List ℕ} {n k : ℕ} (held : HoldsMembers n w k) wher
   unfolding all
   pairs-none = refl
 
-  pub pairs-more : (i : ℕ) → i < k → all i (joins-before G (part w n k)) ≡ true → joinedAll G (getD w (n + i) 0) (part w n (n + i - n)) ≡ true
+  pub pairs-more : (i : ℕ) → i < k → all i (joins-before G (part w n k)) ≡ true → {v : ℕ} → v ≡ getD w (n + i) 0 → joinedAll G v (part w n (n + i - n)) ≡ true
       → all (i + 1) (joins-before G (part w n k)) ≡ true
-  pairs-more i h e f = all-more i (joins-before G (part w n k)) e (sym (before-is i h) ∙ f)
+  pairs-more i h e r f = all-more i (joins-before G (part w n k)) e (sym (before-is i h r) ∙ f)
 
-  pub pairs-apart : (i : ℕ) → i < k → joinedAll G (getD w (n + i) 0) (part w n (n + i - n)) ≡ false → pairwise G (part w n k) ≡ false
+  pub pairs-apart : (i : ℕ) → i < k → {v : ℕ} → v ≡ getD w (n + i) 0 → joinedAll G v (part w n (n + i - n)) ≡ false → pairwise G (part w n k) ≡ false
   unfolding pairwise
-  pairs-apart i h f =
+  pairs-apart i h r f =
       let s = part-length w n k fits in
       fails (pairwise G (part w n k))
       (λ e.
       true≢false
-      (sym (test-all (length (part w n k)) (joins-before G (part w n k)) (λ j. test-self) .0 e i (omega arith)) ∙ sym (before-is i h) ∙ f))
+      (sym (test-all (length (part w n k)) (joins-before G (part w n k)) (λ j. test-self) .0 e i (omega arith)) ∙ sym (before-is i h r) ∙ f))
 
   pub pairs-all : (i : ℕ) → i ≤ k → k ≤ i → all i (joins-before G (part w n k)) ≡ true → pairwise G (part w n k) ≡ true
   unfolding pairwise
@@ -124,19 +125,13 @@ module _ {n : ℕ} {w : List ℕ} {k : ℕ} (held : HoldsMembers n w k) (ranks :
   pub tallies-none : TalliesFirst n ranks (part w n k) 0 (record { members = 0; sum = 0; least = n; largest = 0 })
   tallies-none G size d S M = subst (λ (m : ℕ). TallyOf G (among []) (record { members = 0; sum = 0; least = m; largest = 0 })) size (tally-none G)
 
-  pub tallies-more : (i : ℕ) → i < k → {y z : Tally} → TalliesFirst n ranks (part w n k) i y → z ≡ withMember y (getD ranks (n + getD w (n + i) 0) 0)
-      → TalliesFirst n ranks (part w n k) (i + 1) z
-  tallies-more i h {y} {z} f e G size d S M =
-      subst (λ (x : Tally). TallyOf G (among (take (i + 1) (part w n k))) x) (sym (e ∙ ap (withMember y) same))
-      (tally-next G S (part w n k) M i inside (y .members) (y .sum) (y .least) (y .largest) (f G size d S M))
-    where
-      inside : i < length (part w n k)
-      inside = let s = long in omega arith
-
-      same : getD ranks (n + getD w (n + i) 0) 0 ≡ degree G (getD (part w n k) i 0)
-      same =
-          let l = M .sound i inside .0 in
-          ap (λ (v : ℕ). getD ranks (n + v) 0) (sym (part-at w n k i h)) ∙ d (getD (part w n k) i 0) (omega arith)
+  -- with the member v at place i, of degree d
+  pub tallies-more : (i : ℕ) → i < k → {y z : Tally} → TalliesFirst n ranks (part w n k) i y → {v d : ℕ} → v ≡ getD w (n + i) 0 → ReadsDegree n ranks v d
+      → z ≡ withMember y d → TalliesFirst n ranks (part w n k) (i + 1) z
+  tallies-more i h {y} {z} f r q e G size d S M =
+      subst (λ (x : Tally). TallyOf G (among (take (i + 1) (part w n k))) x)
+      (sym (e ∙ ap (withMember y) (q .degree G size d .0 ∙ ap (degree G) (r ∙ sym (part-at w n k i h)))))
+      (tally-next G S (part w n k) M i (let s = long in omega arith) (y .members) (y .sum) (y .least) (y .largest) (f G size d S M))
 
   pub tallies-all : (i : ℕ) → i ≤ k → k ≤ i → {y : Tally} → TalliesFirst n ranks (part w n k) i y → Tallies n ranks (part w n k) y
   tallies-all i h l {y} f G size d S M =

@@ -9,9 +9,11 @@ ghost use Rattle.graph.specs.Table.{TableFits, graphOf};
 ghost use Rattle.ranks.specs.Ranks.{RanksFit};
 ghost use Rattle.theory.specs.Parts.{part, Filled};
 ghost use Rattle.members.specs.Members.{HoldsMembers, pairwise, Tallies};
+use graph::entry_at;
 use isolation::Tally;
 use isolation::with_member;
 use larger::joined_to_all;
+use ranks::degree_at;
 
 // Writes the vertices of n whose byte in set is 1 into part 1 of work, lowest first, and nothing else of it, and gives how many they are. Reads set.
 pub fn members_of(set: &[u8], n: usize, work: &mut [u16]) -> usize
@@ -38,7 +40,7 @@ pub fn pairwise_joined(table: &[u8], n: usize, work: &[u16], k: usize) -> bool
     let mut i = 0;
     while i < k {
         let end = n + i;
-        let v = work[end] as usize;
+        let v = entry_at(work, end);
         if !joined_to_all(table, n, work, v, n, end) {
             return false;
         }
@@ -60,8 +62,8 @@ pub fn tally_of(ranks: &[u16], n: usize, work: &[u16], k: usize) -> Tally
     };
     let mut i = 0;
     while i < k {
-        let v = work[n + i] as usize;
-        let d = ranks[n + v] as usize;
+        let v = entry_at(work, n + i);
+        let d = degree_at(ranks, n, v);
         y = with_member(y, d);
         i += 1;
     }

@@ -14,7 +14,7 @@ use Rattle.theory.specs.Parts.{part, Kept, HoldsVertices, Filled}
 use Rattle.theory.proofs.basics.Parts.{part-length, part-at, same-members, filled-none, filled-push, filled-pass}
 use Rattle.theory.proofs.basics.Passing.{map-at}
 use Rattle.graph.specs.Table.{graphOf}
-use Rattle.ranks.proofs.Ranks.{entry-below}
+use Rattle.ranks.specs.Ranks.{ReadsVertex}
 use Rattle.qualify.specs.Qualify.{joinedOf, Sifts, Sifted}
 
 -- a vertex at the end of a list is among those joined to all where it is joined to all
@@ -64,43 +64,42 @@ module _ {n : ℕ} {t ranks w₀ : List ℕ} {taken left : ℕ} (a : Sifts n t r
           kept = s .kept;
         }
 
-    module _ (h : j < left) where
-      -- the rank that is looked at, which is as it was, and its vertex
-      rank-kept : getD w (2 * n + j) 0 ≡ getD w₀ (2 * n + j) 0
-      rank-kept = let k = a .few-left in s .kept .below (2 * n + j) (omega arith)
+    -- the rank that is looked at is as it was
+    module _ (h : j < left) {r : ℕ} (read : r ≡ getD w (2 * n + j) 0) where
+      rank-kept : r ≡ getD w₀ (2 * n + j) 0
+      rank-kept = read ∙ (let k = a .few-left in s .kept .below (2 * n + j) (omega arith))
 
-      pub rank-small : getD w (2 * n + j) 0 < n
+      pub rank-small : r < n
       rank-small = let e = rank-kept in let l = a .left-ranks j h in omega arith
 
-      abbrev vertex : ℕ
-      vertex = getD ranks (getD w (2 * n + j) 0) 0
+      -- and v is its vertex
+      module _ {v : ℕ} (vertex : ReadsVertex n ranks r v) where
+        pub vertex-is : (v ≡ vertexAt (graphOf n t) r) × (v < n)
+        vertex-is = vertex .vertex (graphOf n t) refl (a .ranked .order)
 
-      pub vertex-small : vertex < n
-      vertex-small = entry-below (a .ranked) (getD w (2 * n + j) 0) rank-small
+        vertex-listed : v ≡ getD lefts j 0
+        vertex-listed =
+            let l = part-full in
+            vertex-is .0
+            ∙ ap (vertexAt (graphOf n t)) (rank-kept ∙ sym (part-at w₀ (2 * n) left j h))
+            ∙ sym (map-at (vertexAt (graphOf n t)) (part w₀ (2 * n) left) j (omega arith))
 
-      vertex-is : vertex ≡ getD lefts j 0
-      vertex-is =
-          let l = part-full in
-          a .ranked .order (getD w (2 * n + j) 0) rank-small
-          ∙ ap (vertexAt (graphOf n t)) (rank-kept ∙ sym (part-at w₀ (2 * n) left j h))
-          ∙ sym (map-at (vertexAt (graphOf n t)) (part w₀ (2 * n) left) j (omega arith))
+        further : (b : Bool) → b ≡ joinedAll (graphOf n t) v (part w n (n + taken - n))
+            → sifted n t w₀ taken left (j + 1) ≡ sifted n t w₀ taken left j ++ cond b (v ∷ []) []
+        further b e =
+            let l = lefts-length in
+            let us = part w₀ n taken in
+            ap (joinedOf (graphOf n t) us) (ap (λ (i : ℕ). take i lefts) (add-one j) ∙ take-suc lefts j 0 (omega arith))
+            ∙ joinedOf-push (graphOf n t) us (take j lefts) (getD lefts j 0)
+            ∙ ap (λ (u : ℕ). sifted n t w₀ taken left j ++ cond (joinedAll (graphOf n t) u us) (u ∷ []) []) (sym vertex-listed)
+            ∙ ap (λ (c : Bool). sifted n t w₀ taken left j ++ cond c (v ∷ []) [])
+            (ap (joinedAll (graphOf n t) v) (sym (same-members n taken w₀ w (s .kept) (a .few-taken))) ∙ sym e)
 
-      further : (b : Bool) → b ≡ joinedAll (graphOf n t) vertex (part w n (n + taken - n))
-          → sifted n t w₀ taken left (j + 1) ≡ sifted n t w₀ taken left j ++ cond b (vertex ∷ []) []
-      further b e =
-          let l = lefts-length in
-          let us = part w₀ n taken in
-          ap (joinedOf (graphOf n t) us) (ap (λ (i : ℕ). take i lefts) (add-one j) ∙ take-suc lefts j 0 (omega arith))
-          ∙ joinedOf-push (graphOf n t) us (take j lefts) (getD lefts j 0)
-          ∙ ap (λ (v : ℕ). sifted n t w₀ taken left j ++ cond (joinedAll (graphOf n t) v us) (v ∷ []) []) (sym vertex-is)
-          ∙ ap (λ (c : Bool). sifted n t w₀ taken left j ++ cond c (vertex ∷ []) [])
-          (ap (joinedAll (graphOf n t) vertex) (sym (same-members n taken w₀ w (s .kept) (a .few-taken))) ∙ sym e)
+        -- it is written where it is joined to all, and else passed over
+        pub sifted-hit : m ≤ j → true ≡ joinedAll (graphOf n t) v (part w n (n + taken - n))
+            → Filled (3 * n) (3 * n + n) (sifted n t w₀ taken left (j + 1)) w₀ (set w (3 * n + m) v) (m + 1)
+        sifted-hit f e = let k = a .few-left in let r = a .room in filled-push _ _ _ s v _ (further true e) (omega arith) (omega arith)
 
-      -- it is written where it is joined to all, and else passed over
-      pub sifted-hit : m ≤ j → true ≡ joinedAll (graphOf n t) vertex (part w n (n + taken - n))
-          → Filled (3 * n) (3 * n + n) (sifted n t w₀ taken left (j + 1)) w₀ (set w (3 * n + m) vertex) (m + 1)
-      sifted-hit f e = let k = a .few-left in let r = a .room in filled-push _ _ _ s vertex _ (further true e) (omega arith) (omega arith)
-
-      pub sifted-miss : false ≡ joinedAll (graphOf n t) vertex (part w n (n + taken - n))
-          → Filled (3 * n) (3 * n + n) (sifted n t w₀ taken left (j + 1)) w₀ w m
-      sifted-miss e = filled-pass _ _ _ s _ (further false e ∙ append-nil _)
+        pub sifted-miss : false ≡ joinedAll (graphOf n t) v (part w n (n + taken - n))
+            → Filled (3 * n) (3 * n + n) (sifted n t w₀ taken left (j + 1)) w₀ w m
+        sifted-miss e = filled-pass _ _ _ s _ (further false e ∙ append-nil _)

@@ -19,6 +19,7 @@ use Rattle.theory.proofs.basics.Tests.{test-and, test-self, fails}
 use Rattle.theory.proofs.basics.Passing.{passing-listed}
 use Rattle.theory.proofs.basics.PassingParts.{passing-count}
 use Rattle.graph.proofs.Table.{table-size}
+use Rattle.ranks.proofs.Ranks.{ranks-room}
 use Rattle.isolation.specs.declared.Settings.{Settings}
 use Rattle.isolation.specs.declared.Tally.{Tally}
 use Rattle.isolation.specs.Numbers.{settingsOf, isolatedOf, beatenOf, TallyOf}
@@ -92,7 +93,7 @@ module _ {n : ℕ} {ranks w : List ℕ} {s : State} (f : TallyFits n ranks w s) 
   last-below = let h = f .some in f .vertices (s .taken - 1) (omega arith)
 
 -- numbers are equal where their four parts are
-same-tally : (x y : Tally) → x .members ≡ y .members → x .sum ≡ y .sum → x .least ≡ y .least → x .largest ≡ y .largest → x ≡ y
+pub same-tally : (x y : Tally) → x .members ≡ y .members → x .sum ≡ y .sum → x .least ≡ y .least → x .largest ≡ y .largest → x ≡ y
 same-tally x y a b c d i = record { members = a i; sum = b i; least = c i; largest = d i }
 
 module _ {n : ℕ} {t ranks w : List ℕ} {q : Settings} {s : State} (a : Asks n t ranks w q s) where
@@ -139,8 +140,7 @@ module _ {n : ℕ} {t ranks w : List ℕ} {q : Settings} {s : State} (a : Asks n
     pub tally-fits : TallyFits n ranks w s
     tally-fits =
         record {
-          small = a .ranked .fits .small;
-          ranks-fit = a .ranked .room;
+          ranks-fit = ranks-room (a .ranked);
           work-fits = let r = h₀ .room in let z = table-size n t in omega arith;
           some = some;
           few = taken-few;
@@ -218,7 +218,7 @@ module _ {n : ℕ} {t ranks w : List ℕ} {q : Settings} {s : State} (a : Asks n
             let k = f .kept .length-kept in
             record {
               table = a .ranked .fits;
-              ranks-fit = record { small = a .ranked .fits .small; parts = a .ranked .room };
+              ranks-fit = ranks-room (a .ranked);
               degrees = a .ranked .degrees;
               parts = omega arith;
             }

@@ -10,7 +10,7 @@ use Rattle.model.specs.Meaning.{Simple}
 use Rattle.model.specs.Walk.{Position, found}
 use Rattle.model.specs.Listing.{takenList, rules}
 use Rattle.theory.specs.Search.{joinedAll}
-use Rattle.ranks.specs.Ranks.{HoldsRanks}
+use Rattle.ranks.specs.Ranks.{RanksFit, HoldsRanks}
 use Rattle.isolation.specs.declared.Settings.{Settings}
 use Rattle.isolation.specs.declared.Tally.{Tally}
 use Rattle.isolation.specs.Numbers.{settingsOf}
@@ -65,8 +65,7 @@ readTally n ranks w s =
 
 -- what reading them asks for
 pub record TallyFits (n : ℕ) (ranks w : List ℕ) (s : State) : Type 0 where
-  pub small : n ≤ 1024
-  pub ranks-fit : 2 * n ≤ length ranks
+  pub ranks-fit : RanksFit n ranks
   pub work-fits : 8 * n ≤ length w
   pub some : 0 < s .taken
   pub few : s .taken ≤ n

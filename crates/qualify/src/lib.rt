@@ -2,11 +2,14 @@
 // neighbours of the pivot.
 ghost use mathlib.Core.Path.{_≡_};
 ghost use Rattle.qualify.specs.Qualify.{Sifts, Sifted, readTally, TallyFits, Asks, SaysQualifies};
+use graph::entry_at;
 use isolation::Settings;
 use isolation::Tally;
 use isolation::isolated_by;
 use larger::beaten;
 use larger::joined_to_all;
+use ranks::degree_at;
+use ranks::vertex_at;
 use state::State;
 
 // Writes those of the left neighbours of the pivot, whose ranks are the first `left` entries of part 2 of work, that are joined to each taken vertex, the
@@ -28,12 +31,10 @@ fn candidates(
     let mut m: usize = 0;
     let mut j = 0;
     while j < left {
-        // the left rank at place j, and its vertex as an entry and as an index
-        let r = work[2 * n + j] as usize;
-        let x = ranks[r];
-        let v = x as usize;
+        let r = entry_at(work, 2 * n + j);
+        let v = vertex_at(ranks, n, r);
         if joined_to_all(table, n, work, v, n, end) {
-            work[3 * n + m] = x;
+            work[3 * n + m] = v as u16;
             m += 1;
         }
         j += 1;
@@ -50,10 +51,10 @@ fn numbers(s: State, ranks: &[u16], work: &[u16], n: usize) -> Tally
 {
     let k = s.taken;
     let sum = s.sum;
-    let first = work[n] as usize;
-    let last = work[n + (k - 1)] as usize;
-    let least = ranks[n + first] as usize;
-    let largest = ranks[n + last] as usize;
+    let first = entry_at(work, n);
+    let last = entry_at(work, n + (k - 1));
+    let least = degree_at(ranks, n, first);
+    let largest = degree_at(ranks, n, last);
     Tally {
         members: k,
         sum,

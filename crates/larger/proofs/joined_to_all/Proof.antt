@@ -25,22 +25,19 @@ loop-holds c =
     let b = c .before .before in
     (omega arith, omega arith, all-none _ _ _ _ _ (b .pre .2) (b .pre .3))
 
-cast-u : tie.Need-cast-u Inv-loop μ-loop
-cast-u c = omega (arith, c .shared-slice-known3 .given (c .before .before .loop .i))
-
 joined-requires : tie.Need-joined-requires Inv-loop μ-loop
 joined-requires c κs =
     let b = c .before .before .before .before .before in
     let l = c .before .before .loop in
     let h = b .pre .4 (l .i - b .args .from) (omega arith) in
     let e : b .args .from + (l .i - b .args .from) ≡ l .i = omega arith in
-    (b .pre .0, b .pre .1, rw e at h)
+    (b .pre .0, b .pre .1, rw (c .entry-at .ensures) (rw e at h))
 
 returns : tie.Need-returns Inv-loop μ-loop
 returns c =
     let b = c .before .before .before .before .before .before .before in
     let l = c .before .before .before .before .loop in
-    sym (all-apart _ _ _ _ _ (b .pre .2) (b .pre .3) (l .i) (l .inv .0) (omega arith) (sym (c .before .joined .ensures) ∙ not-true _ (c .if1 .taken)))
+    sym (all-apart _ _ _ _ _ (b .pre .2) (b .pre .3) (l .i) (l .inv .0) (omega arith) (c .before .before .entry-at .ensures) (sym (c .before .joined .ensures) ∙ not-true _ (c .if1 .taken)))
 
 loop-again : tie.Need-loop-again Inv-loop μ-loop
 loop-again c =
@@ -48,7 +45,7 @@ loop-again c =
     let l = c .before .before .before .before .loop in (
       omega arith,
       omega arith,
-      all-more _ _ _ _ _ (b .pre .2) (b .pre .3) (l .i) (l .inv .0) (omega arith) (l .inv .2) (sym (c .before .joined .ensures) ∙ not-false _ (c .if1 .left)),
+      all-more _ _ _ _ _ (b .pre .2) (b .pre .3) (l .i) (l .inv .0) (omega arith) (l .inv .2) (c .before .before .entry-at .ensures) (sym (c .before .joined .ensures) ∙ not-false _ (c .if1 .left)),
     )
 
 returns-2 : tie.Need-returns-2 Inv-loop μ-loop
@@ -60,5 +57,4 @@ returns-2 c =
 pub joined-to-all-spec : {M : Type 1} → statement M
 joined-to-all-spec =
     tie.close
-    (tie.spec Inv-loop μ-loop loop-holds (λ c. search needs) (λ c. search needs) cast-u joined-requires returns (λ c. search needs) (λ c. search needs)
-    loop-again returns-2)
+    (tie.spec Inv-loop μ-loop loop-holds (λ c κs. search needs) joined-requires returns (λ c. search needs) (λ c. search needs) loop-again returns-2)

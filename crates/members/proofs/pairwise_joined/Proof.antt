@@ -1,6 +1,6 @@
 -- `members::pairwise_joined` meets its contract: each member that was passed is joined to all before it.
 -- Assumes nothing.
-use Prim.Native.Nat.{_+_, _-_, _≤_}
+use Prim.Native.Nat.{_-_, _≤_}
 use mathlib.Core.Path.{_≡_, sym, _∙_}
 use mathlib.Core.Bool.{true}
 use native.Mathlib.Omega.{arith}
@@ -23,22 +23,20 @@ loop-holds c =
     let start = c .before .before in
     (omega arith, pairs-none _ (start .pre .1))
 
-cast-v : tie.Need-cast-v Inv-loop μ-loop
-cast-v c = omega (arith, c .shared-slice-known3 .given (c .before .before .before .before .before .args .n + c .before .before .loop .i))
-
 joined-to-all-requires : tie.Need-joined-to-all-requires Inv-loop μ-loop
 joined-to-all-requires c κs =
     let turn = c .before in
     let start = turn .before .before .before .before in
     let vertex = start .pre .1 .vertices in
-    (start .pre .0, vertex (turn .before .loop .i) (omega arith), omega arith, omega arith, λ j h. vertex j (omega arith))
+    let v = vertex (turn .before .loop .i) (omega arith) in
+    (start .pre .0, omega arith, omega arith, omega arith, λ j h. vertex j (omega arith))
 
 returns : tie.Need-returns Inv-loop μ-loop
 returns c =
     let turn = c .before .before .before in
     let start = turn .before .before .before .before in
     sym
-    (pairs-apart _ (start .pre .1) (turn .before .loop .i) (turn .loop-test .taken)
+    (pairs-apart _ (start .pre .1) (turn .before .loop .i) (turn .loop-test .taken) (c .before .before .entry-at .ensures)
     (sym (c .before .joined-to-all .ensures) ∙ not-true _ (c .if1 .taken)))
 
 loop-again : tie.Need-loop-again Inv-loop μ-loop
@@ -47,7 +45,7 @@ loop-again c =
     let start = turn .before .before .before .before in
     let more =
     pairs-more _ (start .pre .1) (turn .before .loop .i) (turn .loop-test .taken)
-    (turn .before .loop .inv .1) (sym (c .before .joined-to-all .ensures) ∙ not-false _ (c .if1 .left))
+    (turn .before .loop .inv .1) (c .before .before .entry-at .ensures) (sym (c .before .joined-to-all .ensures) ∙ not-false _ (c .if1 .left))
     in
     (omega arith, more)
 
@@ -60,5 +58,5 @@ returns-2 c =
 pub pairwise-joined-spec : {M : Type 1} → statement M
 pairwise-joined-spec =
     tie.close
-    (tie.spec Inv-loop μ-loop loop-holds (λ c. omega arith) (λ c. omega arith) (λ c. omega arith) cast-v joined-to-all-requires returns (λ c. omega arith)
-    (λ c. omega arith) loop-again returns-2)
+    (tie.spec Inv-loop μ-loop loop-holds (λ c. omega arith) (λ c κs. omega arith) joined-to-all-requires returns (λ c. omega arith) (λ c. omega arith)
+    loop-again returns-2)

@@ -7,7 +7,8 @@ use Prim.Native.Nat.{_+_, _-_, _*_, _≤_}
 use borrow.Author.Needs.{needs}
 use Rattle.theory.specs.Parts.{Filled}
 use Rattle.theory.proofs.basics.Parts.{filled-same}
-use Rattle.qualify.proofs.Sifted.{sifted, sifted-none, sifted-hit, sifted-miss, sifted-all, rank-small, vertex-small, members-vertices}
+use Rattle.ranks.proofs.Ranks.{ranks-room}
+use Rattle.qualify.proofs.Sifted.{sifted, sifted-none, sifted-hit, sifted-miss, sifted-all, rank-small, vertex-is, members-vertices}
 use Rattle.qualify.proofs.candidates.Statement.{statement}
 use Rattle.qualify.proofs.candidates.Tie as tie
 
@@ -21,50 +22,42 @@ abbrev μ-loop : tie.MeasureT-loop
 loop-holds : tie.Need-loop-holds Inv-loop μ-loop
 loop-holds c = (omega arith, omega arith, sifted-none (c .before .before .before .pre))
 
-cast-r : tie.Need-cast-r Inv-loop μ-loop
-cast-r c =
-    let l = c .before .before in
-    let p = l .before .before .before .before .pre in
-    omega (arith, p .ranked .fits .small, rank-small p (l .loop .inv .2) (c .before .loop-test .taken))
-
-mul-x : tie.Need-mul-x Inv-loop μ-loop
-mul-x c =
-    let l = c .before .before in
-    let p = l .before .before .before .before .pre in
-    omega (arith, p .ranked .fits .small, rank-small p (l .loop .inv .2) (c .before .loop-test .taken))
-
-shared-slice-read-x : tie.Need-shared-slice-read-x Inv-loop μ-loop
-shared-slice-read-x c =
+vertex-at-requires : tie.Need-vertex-at-requires Inv-loop μ-loop
+vertex-at-requires c κs =
     let l = c .before .before .before in
     let p = l .before .before .before .before .pre in
-    omega (arith, p .ranked .room, rank-small p (l .loop .inv .2) (c .before .before .loop-test .taken))
-
-cast-v : tie.Need-cast-v Inv-loop μ-loop
-cast-v c =
-    let l = c .before .before .before in
-    let p = l .before .before .before .before .pre in
-    omega (arith, p .ranked .fits .small, vertex-small p (l .loop .inv .2) (c .before .before .loop-test .taken))
+    (ranks-room (p .ranked), rank-small p (l .loop .inv .2) (c .before .before .loop-test .taken) (c .entry-at .ensures))
 
 joined-to-all-requires : tie.Need-joined-to-all-requires Inv-loop μ-loop
 joined-to-all-requires c κs =
-    let l = c .before .before .before .before in
+    let l = c .before .before .before .before .before in
     let p = l .before .before .before .before .pre in
     let v = l .loop .inv .2 in
     let k = p .few-taken in
     let r = p .room in
     let e = v .kept .length-kept in
-    (p .ranked .fits, vertex-small p v (c .before .before .before .loop-test .taken), omega arith, omega arith, λ i h. members-vertices p (v .kept) i (omega arith))
+    let read = c .before .before .entry-at .ensures in
+    let low = vertex-is p v (c .before .before .before .before .loop-test .taken) read (c .before .vertex-at .ensures) .1 in
+    (p .ranked .fits, low, omega arith, omega arith, λ i h. members-vertices p (v .kept) i (omega arith))
+
+cast-work : tie.Need-cast-work Inv-loop μ-loop
+cast-work c =
+    let l = c .before .before .before .before .before .before .before in
+    let p = l .before .before .before .before .pre in
+    omega (arith, p .ranked .fits .small, vertex-is p (l .loop .inv .2) (c .before .before .before .before .before .before .loop-test .taken) (c .before .before .before .before .entry-at .ensures) (c .before .before .before .vertex-at .ensures) .1)
 
 loop-again : tie.Need-loop-again Inv-loop μ-loop
 loop-again c =
-    let l = c .before .before .before .before .before .before in
+    let l = c .before .before .before .before .before .before .before in
     let p = l .before .before .before .before .pre in
     let v = l .loop .inv in
-    let h = c .before .before .before .before .before .loop-test .taken in
+    let h = c .before .before .before .before .before .before .loop-test .taken in
+    let r = c .before .before .before .before .entry-at .ensures in
+    let u = c .before .before .before .vertex-at .ensures in
     let e = c .before .joined-to-all .ensures in
     ⊎-elim
-    (λ w. let m = w .2 in (omega arith, omega arith, filled-same (w .1) m (sifted-hit p (v .2) h (v .0) (sym (w .0 .taken) ∙ e))))
-    (λ w. let m = w .2 in (omega arith, omega arith, filled-same (w .1) m (sifted-miss p (v .2) h (sym (w .0 .left) ∙ e))))
+    (λ w. let m = w .2 in (omega arith, omega arith, filled-same (w .1) m (sifted-hit p (v .2) h r u (v .0) (sym (w .0 .taken) ∙ e))))
+    (λ w. let m = w .2 in (omega arith, omega arith, filled-same (w .1) m (sifted-miss p (v .2) h r u (sym (w .0 .left) ∙ e))))
     (c .if1 .came)
 
 same-length : tie.Need-same-length Inv-loop μ-loop
@@ -76,6 +69,6 @@ returns c = let v = c .before .loop .inv in sifted-all (c .before .before .befor
 pub candidates-spec : {M : Type 1} → statement M
 candidates-spec =
     tie.close
-    (tie.spec Inv-loop μ-loop (λ c. search needs) loop-holds (λ c. search needs) (λ c. search needs) (λ c. search needs) (λ c. search needs) cast-r mul-x
-    shared-slice-read-x cast-v joined-to-all-requires (λ c. search needs) (λ c. search needs) (λ c. search needs) (λ c. search needs) (λ c. search needs)
+    (tie.spec Inv-loop μ-loop (λ c. search needs) loop-holds (λ c. search needs) (λ c. search needs) (λ c κs. search needs) vertex-at-requires
+    joined-to-all-requires cast-work (λ c. search needs) (λ c. search needs) (λ c. search needs) (λ c. search needs) (λ c. search needs)
     (λ c. search needs) (λ c. search needs) loop-again same-length returns)

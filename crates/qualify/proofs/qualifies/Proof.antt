@@ -28,7 +28,7 @@ isolated-by-requires c κs =
     let a = i .before .before .before .before .before .before .pre in
     let f = tally-fits a (i .before .before .if1 .left) (i .before .if2 .left) (i .if3 .left) in
     let k = f .few in
-    let l = f .small in
+    let l = f .ranks-fit .small in
     let m = ap (λ (x : Tally). x .members) (c .numbers .ensures) in
     record { factor = a .factor; members = omega arith }
 
