@@ -19,7 +19,7 @@ use Rattle.isolation.specs.declared.Tally.{Tally}
 use Rattle.isolation.specs.Numbers.{findOf, beatenOf}
 use Rattle.theory.specs.Parts.{part}
 use Rattle.larger.specs.Search.{Lent, Room, Searched, Posed, Tested}
-use Rattle.theory.proofs.basics.Parts.{part-length, part-at, kept-none}
+use Rattle.theory.proofs.basics.Parts.{part-length, part-at, state-none}
 use Rattle.graph.specs.Table.{graphOf}
 
 -- numbers of at most 1,024, summed over the members
@@ -96,7 +96,7 @@ module _ {n : ℕ} {t ranks w : List ℕ} {s : Settings} {y : Tally} {m : ℕ} (
             ∙ search-cut (graphOf n t) (posed .loopless) (posed .symmetric) (s .notion) (s .factor) (posed .set) (posed .clique) (part w (3 * n) m)
             (posed .candidates) (y .members) (y .sum) (y .least) (y .largest) (posed .tally)
             ∙ sym (beaten-search (graphOf n t) s y (part w (3 * n) m) e d);
-        kept = found .kept;
+        kept = found .kept .state;
       }
     where
       none : y .members - y .members ≡ 0
@@ -104,7 +104,7 @@ module _ {n : ℕ} {t ranks w : List ℕ} {s : Settings} {y : Tally} {m : ℕ} (
 
   -- a common neighbour decides
   by-length : (r : Bool) → ltb 0 m ≡ r → beatenOf (graphOf n t) s y (part w (3 * n) m) ≡ ltb 0 (length (part w (3 * n) m)) → Tested n t w w s y m r
-  by-length r e f = record { answer = sym e ∙ ap (ltb 0) (sym all-candidates) ∙ sym f; kept = kept-none _ _ w }
+  by-length r e f = record { answer = sym e ∙ ap (ltb 0) (sym all-candidates) ∙ sym f; kept = state-none }
 
   pub by-kind : s .kind ≢ 0 → {r : Bool} → ltb 0 m ≡ r → Tested n t w w s y m r
   by-kind d e = by-length _ e (beaten-kind (graphOf n t) s y (part w (3 * n) m) d)

@@ -5,6 +5,7 @@ use mathlib.Core.Path.{_≡_, refl, sym, ap, _∙_, subst}
 use mathlib.Core.Bool.{Bool, true, false}
 use mathlib.Core.List.{List, [], _∷_, _++_}
 use mathlib.Core.Logic.{_⊎_, inl, inr}
+use native.Mathlib.Nat.{add-assoc}
 use native.Mathlib.Omega.{arith}
 use lib.ListN.{length, getD, drop, set}
 use lib.Seq.{getD-set-same, getD-set-other}
@@ -16,28 +17,28 @@ use Rattle.ranks.specs.Ranks.{ReadsDegree}
 use Rattle.isolation.specs.declared.Settings.{Settings}
 use Rattle.isolation.specs.declared.Tally.{Tally}
 use Rattle.isolation.specs.Numbers.{withMember, isolatedOf, hopelessOf, findOf}
-use Rattle.theory.specs.Parts.{part, Kept, HoldsVertices}
-use Rattle.larger.specs.Search.{Lent, Room, Searched}
-use Rattle.theory.proofs.basics.Parts.{part-length, part-at, part-push, kept-none, kept-set, kept-then, part-below, part-above}
+use Rattle.theory.specs.Parts.{part, membersAt, candidatesAt, SamePart, HoldsVertices}
+use Rattle.larger.specs.Search.{Lent, Room, SearchKept, Searched}
+use Rattle.theory.proofs.basics.Parts.{part-length, part-at, part-same, part-push, state-none, state-set, state-then}
 use Rattle.graph.specs.Table.{graphOf}
 
 -- those that the search has added, and the candidates
 abbrev pub addedIn : ℕ → List ℕ → Tally → ℕ → List ℕ
-addedIn n w y base = part w (n + base) (y .members - base)
+addedIn n w y base = part w (membersAt n + base) (y .members - base)
 
 abbrev pub candidatesIn : ℕ → List ℕ → ℕ → List ℕ
-candidatesIn n w m = part w (3 * n) m
+candidatesIn n w m = part w (candidatesAt n) m
 
--- before candidate j: what the search says from i on it says from j on, and nothing below or past the free entries of part 1 was written
+-- before candidate j: what the search says from i on it says from j on, and what it keeps is as it was
 pub record At (n : ℕ) (t ranks w₀ : List ℕ) (s : Settings) (y : Tally) (base i m : ℕ) (w : List ℕ) (j : ℕ) : Type 0 where
   pub lent : Lent n t ranks w₀
   pub room : Room n w₀ s y base i m
   pub from : i ≤ j
-  pub kept : Kept (n + y .members) (2 * n) w₀ w
+  pub kept : SearchKept n (y .members) m w₀ w
   pub same : findOf (graphOf n t) s (addedIn n w₀ y base) y (drop i (candidatesIn n w₀ m)) ≡ findOf (graphOf n t) s (addedIn n w₀ y base) y (drop j (candidatesIn n w₀ m))
 
 pub at-start : {n : ℕ} {t ranks w₀ : List ℕ} {s : Settings} {y : Tally} {base i m : ℕ} → Lent n t ranks w₀ → Room n w₀ s y base i m → At n t ranks w₀ s y base i m w₀ i
-at-start lent room = record { lent = lent; room = room; from = omega arith; kept = kept-none _ _ _; same = refl }
+at-start lent room = record { lent = lent; room = room; from = omega arith; kept = record { state = state-none; candidates = λ e h. refl }; same = refl }
 
 module _ {n : ℕ} {t ranks w₀ : List ℕ} {s : Settings} {y : Tally} {base i m : ℕ} {w : List ℕ} {j : ℕ} (at : At n t ranks w₀ s y base i m w j) where
   abbrev room : Room n w₀ s y base i m
@@ -60,11 +61,11 @@ module _ {n : ℕ} {t ranks w₀ : List ℕ} {s : Settings} {y : Tally} {base i 
   all-candidates = let l = at .lent .parts in let f = room .few in part-length w₀ (3 * n) m (omega arith)
 
   -- what the search says from j on is its answer
-  says : {w₁ : List ℕ} {r : Bool} → Kept (n + y .members) (2 * n) w₀ w₁ → findOf graph s added y (drop j candidates) ≡ r → Searched n t w₀ w₁ s y base i m r
+  says : {w₁ : List ℕ} {r : Bool} → SearchKept n (y .members) m w₀ w₁ → findOf graph s added y (drop j candidates) ≡ r → Searched n t w₀ w₁ s y base i m r
   says k e = record { answer = sym (at .same ∙ e); kept = k }
 
   -- and where it says that from the next on too, candidate j is passed over
-  passes : {w₁ : List ℕ} → Kept (n + y .members) (2 * n) w₀ w₁ → findOf graph s added y (drop j candidates) ≡ findOf graph s added y (drop (j + 1) candidates)
+  passes : {w₁ : List ℕ} → SearchKept n (y .members) m w₀ w₁ → findOf graph s added y (drop j candidates) ≡ findOf graph s added y (drop (j + 1) candidates)
       → At n t ranks w₀ s y base i m w₁ (j + 1)
   passes k e = record { lent = at .lent; room = room; from = omega arith; kept = k; same = at .same ∙ e }
 
@@ -73,16 +74,19 @@ module _ {n : ℕ} {t ranks w₀ : List ℕ} {s : Settings} {y : Tally} {base i 
   at-end h = says (at .kept) (cut-end _ _ _ _ _ _ _ _ candidates j (let l = all-candidates in omega arith))
 
   -- those added still stand where they stood
+  same-added : SamePart (n + base) (y .members - base) w₀ w
+  same-added e h = rw (add-assoc n base e) (at .kept .state .members (base + e) (omega arith))
+
   pub still-added : part w (n + base) (n + y .members - (n + base)) ≡ added
   still-added =
       ap (part w (n + base)) shorter
-      ∙ part-below _ _ w₀ w (at .kept) (n + base) (y .members - base) (omega arith)
+      ∙ part-same w w₀ (n + base) (y .members - base) (at .kept .state .length-kept) same-added
     where
       shorter : n + y .members - (n + base) ≡ y .members - base
       shorter = omega arith
 
   pub added-vertices : HoldsVertices n w (n + base) (n + y .members - (n + base))
-  added-vertices e h = let k = at .kept .below (n + base + e) (omega arith) in let l = room .added e (omega arith) in omega arith
+  added-vertices e h = let k = same-added e (omega arith) in let l = room .added e (omega arith) in omega arith
 
   module _ (inside : j < m) where
     in-list : j < length candidates
@@ -98,10 +102,10 @@ module _ {n : ℕ} {t ranks w₀ : List ℕ} {s : Settings} {y : Tally} {base i 
     -- candidate j is read
     module _ {v : ℕ} (read : v ≡ getD w (3 * n + j) 0) where
       is-candidate : getD candidates j 0 ≡ v
-      is-candidate = part-at w₀ (3 * n) m j inside ∙ sym (read ∙ at .kept .above (3 * n + j) (omega arith))
+      is-candidate = part-at w₀ (3 * n) m j inside ∙ sym (read ∙ at .kept .candidates j inside)
 
       pub candidate-vertex : v < n
-      candidate-vertex = let k = at .kept .above (3 * n + j) (omega arith) in let l = room .candidates j inside in omega arith
+      candidate-vertex = let k = at .kept .candidates j inside in let l = room .candidates j inside in omega arith
 
       module _ (hope : hopelessOf s y (m - j) ≡ false) where
         hope-left : hopelessOf s y (length candidates - j) ≡ false
@@ -156,13 +160,17 @@ module _ {n : ℕ} {t ranks w₀ : List ℕ} {s : Settings} {y : Tally} {base i 
     fits : n + y .members < length w
     fits = omega arith
 
-    taken-kept : Kept (n + y .members) (2 * n) w₀ taken
-    taken-kept = kept-set _ _ w₀ w (at .kept) (n + y .members) v (omega arith) (omega arith)
+    taken-kept : SearchKept n (y .members) m w₀ taken
+    taken-kept =
+        record {
+          state = state-set (at .kept .state) (omega arith) (n + y .members) v (omega arith) (inl (omega arith));
+          candidates = λ e h. getD-set-other w (n + y .members) (3 * n + e) v 0 (λ q. omega arith) ∙ at .kept .candidates e h;
+        }
 
     pub lent-next : Lent n t ranks taken
     lent-next =
         let parts = at .lent .parts in
-        let l = taken-kept .length-kept in
+        let l = taken-kept .state .length-kept in
         record { table = at .lent .table; ranks-fit = at .lent .ranks-fit; degrees = at .lent .degrees; parts = omega arith }
 
     pub room-next : (from : ℕ) → j + 1 ≤ from → Room n taken s z base from m
@@ -174,7 +182,7 @@ module _ {n : ℕ} {t ranks w₀ : List ℕ} {s : Settings} {y : Tally} {base i 
             go : (e < y .members - base) ⊎ (e ≡ y .members - base) ⊎ (y .members - base < e) → getD taken (n + base + e) 0 < n
             go (inl l) =
                 let a = getD-set-other w (n + y .members) (n + base + e) v 0 (λ q. omega arith) in
-                let k = at .kept .below (n + base + e) (omega arith) in
+                let k = same-added e l in
                 let r = room .added e l in
                 omega arith
             go (inr (inl q)) =
@@ -193,14 +201,16 @@ module _ {n : ℕ} {t ranks w₀ : List ℕ} {s : Settings} {y : Tally} {base i 
               few = room .few;
               sum = let l = degree-is .1 in omega arith;
               added = added-next;
-              candidates = λ e h. let k = taken-kept .above (3 * n + e) (omega arith) in let l = room .candidates e h in omega arith;
+              candidates = λ e h. let k = taken-kept .candidates e h in let l = room .candidates e h in omega arith;
             }
 
     module _ {w₁ : List ℕ} {r : Bool} (deep : Searched n t taken w₁ s z base (j + 1) m r) where
-      kept-deep : Kept (n + y .members) (2 * n) w₀ w₁
+      kept-deep : SearchKept n (y .members) m w₀ w₁
       kept-deep =
-          let k = deep .kept in
-          kept-then _ _ (n + z .members) (2 * n) w₀ taken w₁ taken-kept (deep .kept) (let e = ap (λ (x : Tally). x .members) (adds .more) in omega arith) (omega arith)
+          record {
+            state = state-then (taken-kept .state) (deep .kept .state) (let e = ap (λ (x : Tally). x .members) (adds .more) in omega arith);
+            candidates = λ e h. deep .kept .candidates e h ∙ taken-kept .candidates e h;
+          }
 
       pushed : part taken (n + base) (z .members - base) ≡ added ++ (getD candidates j 0 ∷ [])
       pushed =
@@ -208,7 +218,7 @@ module _ {n : ℕ} {t ranks w₀ : List ℕ} {s : Settings} {y : Tally} {base i 
           ∙ ap (part taken (n + base)) longer
           ∙ ap (λ (e : ℕ). part (set w e v) (n + base) (y .members - base + 1)) (sym place)
           ∙ part-push w (n + base) (y .members - base) v (let f = fits in omega arith)
-          ∙ ap (λ (l : List ℕ). l ++ (v ∷ [])) (part-below _ _ w₀ w (at .kept) (n + base) (y .members - base) (omega arith))
+          ∙ ap (λ (l : List ℕ). l ++ (v ∷ [])) (part-same w w₀ (n + base) (y .members - base) (at .kept .state .length-kept) same-added)
           ∙ ap (λ (u : ℕ). added ++ (u ∷ [])) (sym (is-candidate inside (adds .read)))
         where
           longer : y .members + 1 - base ≡ y .members - base + 1
@@ -223,7 +233,7 @@ module _ {n : ℕ} {t ranks w₀ : List ℕ} {s : Settings} {y : Tally} {base i 
           ∙ ap (λ (l : List ℕ). findOf graph s l z (drop (j + 1) (candidatesIn n taken m))) pushed
           ∙ ap (λ (x : Tally). findOf graph s (added ++ (getD candidates j 0 ∷ [])) x (drop (j + 1) (candidatesIn n taken m))) with-degree
           ∙ ap (λ (l : List ℕ). findOf graph s (added ++ (getD candidates j 0 ∷ [])) (withMember y (degree graph (getD candidates j 0))) (drop (j + 1) l))
-          (part-above _ _ w₀ taken taken-kept (3 * n) m (omega arith))
+          (part-same taken w₀ (3 * n) m (taken-kept .state .length-kept) (taken-kept .candidates))
 
       -- found with it and more
       pub at-deeper : r ≡ true → Searched n t w₀ w₁ s y base i m true

@@ -13,7 +13,7 @@ use Rattle.ranks.specs.Ranks.{RanksFit, HoldsDegrees}
 use Rattle.isolation.specs.declared.Settings.{Settings}
 use Rattle.isolation.specs.declared.Tally.{Tally}
 use Rattle.isolation.specs.Numbers.{findOf, beatenOf, TallyOf}
-use Rattle.theory.specs.Parts.{part, Kept, HoldsVertices}
+use Rattle.theory.specs.Parts.{part, membersAt, candidatesAt, SamePart, StateKept, HoldsVertices}
 
 -- the table holds a graph of n vertices, the ranks its degrees, and the work slice has the parts 0 to 3
 pub record Lent (n : ℕ) (t ranks w : List ℕ) : Type 0 where
@@ -30,13 +30,18 @@ pub record Room (n : ℕ) (w : List ℕ) (s : Settings) (y : Tally) (base i m : 
   pub left : y .members + (m - i) ≤ n
   pub few : m ≤ n
   pub sum : y .sum ≤ 1024 * y .members
-  pub added : HoldsVertices n w (n + base) (y .members - base)
-  pub candidates : HoldsVertices n w (3 * n) m
+  pub added : HoldsVertices n w (membersAt n + base) (y .members - base)
+  pub candidates : HoldsVertices n w (candidatesAt n) m
 
--- what the search answers, and what it leaves: every entry outside those of part 1 past the members is as it was
+-- what the search keeps: the state's entries with k members, and the m candidates, since after a call of itself it goes on with those left
+pub record SearchKept (n k m : ℕ) (before after : List ℕ) : Type 0 where
+  pub state : StateKept n k before after
+  pub candidates : SamePart (candidatesAt n) m before after
+
+-- what the search answers, and what it keeps
 pub record Searched (n : ℕ) (t before after : List ℕ) (s : Settings) (y : Tally) (base i m : ℕ) (r : Bool) : Type 0 where
-  pub answer : r ≡ findOf (graphOf n t) s (part before (n + base) (y .members - base)) y (drop i (part before (3 * n) m))
-  pub kept : Kept (n + y .members) (2 * n) before after
+  pub answer : r ≡ findOf (graphOf n t) s (part before (membersAt n + base) (y .members - base)) y (drop i (part before (candidatesAt n) m))
+  pub kept : SearchKept n (y .members) m before after
 
 -- The question that `beaten` answers: the numbers y are those of a clique in a graph with no loops that is symmetric, and the first m entries of
 -- part 3 are its common neighbours. There is room in part 1 for the members and these.
@@ -48,9 +53,9 @@ pub record Posed (n : ℕ) (t w : List ℕ) (s : Settings) (y : Tally) (m : ℕ)
   pub symmetric : Symmetric (graphOf n t)
   pub clique : Clique (graphOf n t) set
   pub tally : TallyOf (graphOf n t) set y
-  pub candidates : Candidates (graphOf n t) set (part w (3 * n) m)
+  pub candidates : Candidates (graphOf n t) set (part w (candidatesAt n) m)
 
--- its answer, and what it leaves: every entry outside those of part 1 past the members is as it was
+-- its answer, and that the state's entries are as they were
 pub record Tested (n : ℕ) (t before after : List ℕ) (s : Settings) (y : Tally) (m : ℕ) (r : Bool) : Type 0 where
-  pub answer : r ≡ beatenOf (graphOf n t) s y (part before (3 * n) m)
-  pub kept : Kept (n + y .members) (2 * n) before after
+  pub answer : r ≡ beatenOf (graphOf n t) s y (part before (candidatesAt n) m)
+  pub kept : StateKept n (y .members) before after

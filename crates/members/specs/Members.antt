@@ -8,7 +8,7 @@ use lib.ListN.{length, getD, take}
 use Rattle.model.specs.Below.{all}
 use Rattle.model.specs.Graph.{Graph}
 use Rattle.model.specs.Groups.{VertexSet}
-use Rattle.theory.specs.Parts.{HoldsVertices}
+use Rattle.theory.specs.Parts.{part, membersAt, HoldsVertices}
 use Rattle.theory.specs.Search.{joinedAll, Members}
 use Rattle.ranks.specs.Ranks.{HoldsDegrees}
 use Rattle.isolation.specs.declared.Tally.{Tally}
@@ -18,7 +18,13 @@ use Rattle.isolation.specs.Numbers.{TallyOf}
 pub record HoldsMembers (n : ℕ) (w : List ℕ) (k : ℕ) : Type 0 where
   pub few : k ≤ n
   pub parts : 4 * n ≤ length w
-  pub vertices : HoldsVertices n w n k
+  pub vertices : HoldsVertices n w (membersAt n) k
+
+-- the members l of a set are the first k entries of part 1, and the slice is as long as it was
+pub record MembersIn (n : ℕ) (l before after : List ℕ) (k : ℕ) : Type 0 where
+  pub listed : part after (membersAt n) k ≡ l
+  pub few : k ≤ n
+  pub length-kept : length after ≡ length before
 
 -- each vertex of the list is joined to all before it
 unfoldable pub pairwise : Graph → List ℕ → Bool

@@ -7,18 +7,18 @@ ghost use Rattle.model.specs.Listing.{is};
 ghost use Rattle.theory.specs.Search.{joinedAll};
 ghost use Rattle.graph.specs.Table.{TableFits, graphOf};
 ghost use Rattle.ranks.specs.Ranks.{RanksFit};
-ghost use Rattle.theory.specs.Parts.{part, Filled};
-ghost use Rattle.members.specs.Members.{HoldsMembers, pairwise, Tallies};
+ghost use Rattle.theory.specs.Parts.{part, membersAt, CandidatesIn};
+ghost use Rattle.members.specs.Members.{HoldsMembers, MembersIn, pairwise, Tallies};
 use graph::entry_at;
 use isolation::Tally;
 use isolation::with_member;
 use larger::joined_to_all;
 use ranks::degree_at;
 
-// Writes the vertices of n whose byte in set is 1 into part 1 of work, lowest first, and nothing else of it, and gives how many they are. Reads set.
+// Writes the vertices of n whose byte in set is 1 into part 1 of work, lowest first, and gives how many they are. Reads set.
 pub fn members_of(set: &[u8], n: usize, work: &mut [u16]) -> usize
     requires { ⌜ RanksFit n (now work) × (length (now set) ≡ n) ⌝ }
-    ensures { λ k. ⌜ Filled n (n + n) (passing n (is 1 (now (set .entry)))) (now (work .entry)) (now (work .exit)) k × (k ≤ n) ⌝ }
+    ensures { λ k. ⌜ MembersIn n (passing n (is 1 (now (set .entry)))) (now (work .entry)) (now (work .exit)) k ⌝ }
 {
     let mut k: usize = 0;
     let mut v = 0;
@@ -35,7 +35,7 @@ pub fn members_of(set: &[u8], n: usize, work: &mut [u16]) -> usize
 // Whether the k members in part 1 of work are pairwise joined: each is joined to all before it. Reads the table and the members.
 pub fn pairwise_joined(table: &[u8], n: usize, work: &[u16], k: usize) -> bool
     requires { ⌜ TableFits n (now table) × HoldsMembers n (now work) k ⌝ }
-    ensures { λ r. ⌜ r ≡ pairwise (graphOf n (now (table .entry))) (part (now (work .entry)) n k) ⌝ }
+    ensures { λ r. ⌜ r ≡ pairwise (graphOf n (now (table .entry))) (part (now (work .entry)) (membersAt n) k) ⌝ }
 {
     let mut i = 0;
     while i < k {
@@ -52,7 +52,7 @@ pub fn pairwise_joined(table: &[u8], n: usize, work: &[u16], k: usize) -> bool
 // The numbers of the set whose k members stand in part 1 of work, by the degrees in part 1 of ranks; n is the number of vertices. Reads both.
 pub fn tally_of(ranks: &[u16], n: usize, work: &[u16], k: usize) -> Tally
     requires { ⌜ RanksFit n (now ranks) × HoldsMembers n (now work) k ⌝ }
-    ensures { λ y. ⌜ Tallies n (now (ranks .entry)) (part (now (work .entry)) n k) y ⌝ }
+    ensures { λ y. ⌜ Tallies n (now (ranks .entry)) (part (now (work .entry)) (membersAt n) k) y ⌝ }
 {
     let mut y = Tally {
         members: 0,
@@ -70,12 +70,12 @@ pub fn tally_of(ranks: &[u16], n: usize, work: &[u16], k: usize) -> Tally
     y
 }
 
-// Writes the vertices that are joined to each of the k members in part 1 of work into part 3, lowest first, and nothing else of work, and gives how
-// many they are; with no loops in the graph they are the members' common neighbours, of which a larger clique is made (the common neighbourhood of
-// document 002, section 2.2.3). Reads the table at the members.
+// Writes the vertices that are joined to each of the k members in part 1 of work into part 3, lowest first, and gives how many they are; with no loops
+// in the graph they are the members' common neighbours, of which a larger clique is made (the common neighbourhood of document 002, section 2.2.3).
+// Reads the table at the members; keeps the state's entries of work, these members among them.
 pub fn common_neighbours(table: &[u8], n: usize, work: &mut [u16], k: usize) -> usize
     requires { ⌜ TableFits n (now table) × HoldsMembers n (now work) k ⌝ }
-    ensures { λ m. ⌜ Filled (3 * n) (3 * n + n) (passing n (λ v. joinedAll (graphOf n (now (table .entry))) v (part (now (work .entry)) n k))) (now (work .entry)) (now (work .exit)) m × (m ≤ n) ⌝ }
+    ensures { λ m. ⌜ CandidatesIn n k (passing n (λ v. joinedAll (graphOf n (now (table .entry))) v (part (now (work .entry)) (membersAt n) k))) (now (work .entry)) (now (work .exit)) m ⌝ }
 {
     let end = n + k;
     let mut m: usize = 0;

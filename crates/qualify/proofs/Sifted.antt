@@ -11,7 +11,7 @@ use lib.Seq.{take-suc, take-length}
 use Rattle.model.specs.Graph.{Graph, vertexAt}
 use Rattle.theory.specs.Search.{joinedAll}
 use Rattle.theory.specs.Parts.{part, Kept, HoldsVertices, Filled}
-use Rattle.theory.proofs.basics.Parts.{part-length, part-at, same-members, filled-none, filled-push, filled-pass}
+use Rattle.theory.proofs.basics.Parts.{part-length, part-at, same-members, filled-none, filled-push, filled-pass, kept-state, filled-candidates}
 use Rattle.theory.proofs.basics.Passing.{map-at}
 use Rattle.graph.specs.Table.{graphOf}
 use Rattle.ranks.specs.Ranks.{ReadsVertex}
@@ -60,8 +60,10 @@ module _ {n : ℕ} {t ranks w₀ : List ℕ} {taken left : ℕ} (a : Sifts n t r
         let e : j ≡ length lefts = omega arith in
         record {
           fewer = omega arith;
-          holds = s .listed ∙ ap (joinedOf (graphOf n t) (part w₀ n taken)) (ap (λ (i : ℕ). take i lefts) e ∙ take-length lefts);
-          kept = s .kept;
+          found =
+              filled-candidates
+              (filled-pass _ _ _ s _ (sym (ap (joinedOf (graphOf n t) (part w₀ n taken)) (ap (λ (i : ℕ). take i lefts) e ∙ take-length lefts)))) (a .few-taken)
+              (let k = a .few-left in omega arith);
         }
 
     -- the rank that is looked at is as it was
@@ -93,7 +95,7 @@ module _ {n : ℕ} {t ranks w₀ : List ℕ} {taken left : ℕ} (a : Sifts n t r
             ∙ joinedOf-push (graphOf n t) us (take j lefts) (getD lefts j 0)
             ∙ ap (λ (u : ℕ). sifted n t w₀ taken left j ++ cond (joinedAll (graphOf n t) u us) (u ∷ []) []) (sym vertex-listed)
             ∙ ap (λ (c : Bool). sifted n t w₀ taken left j ++ cond c (v ∷ []) [])
-            (ap (joinedAll (graphOf n t) v) (sym (same-members n taken w₀ w (s .kept) (a .few-taken))) ∙ sym e)
+            (ap (joinedAll (graphOf n t) v) (sym (same-members (kept-state (s .kept) (a .few-taken)))) ∙ sym e)
 
         -- it is written where it is joined to all, and else passed over
         pub sifted-hit : m ≤ j → true ≡ joinedAll (graphOf n t) v (part w n (n + taken - n))

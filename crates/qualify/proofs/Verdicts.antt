@@ -18,14 +18,13 @@ use Rattle.theory.specs.Search.{Candidates}
 use Rattle.theory.proofs.basics.Tests.{test-and, test-self, fails}
 use Rattle.theory.proofs.basics.Passing.{passing-listed}
 use Rattle.theory.proofs.basics.PassingParts.{passing-count}
-use Rattle.graph.proofs.Table.{table-size}
 use Rattle.ranks.proofs.Ranks.{ranks-room}
 use Rattle.isolation.specs.declared.Settings.{Settings}
 use Rattle.isolation.specs.declared.Tally.{Tally}
 use Rattle.isolation.specs.Numbers.{settingsOf, isolatedOf, beatenOf, TallyOf}
-use Rattle.theory.specs.Parts.{part}
+use Rattle.theory.specs.Parts.{part, StateKept}
 use Rattle.larger.specs.Search.{Lent, Posed, Tested}
-use Rattle.theory.proofs.basics.Parts.{part-same}
+use Rattle.theory.proofs.basics.Parts.{part-same, state-then}
 use Rattle.graph.specs.Table.{graphOf}
 use Rattle.state.specs.declared.State.{State}
 use Rattle.state.specs.State.{takenRanks, leftRanks, Stands}
@@ -61,13 +60,13 @@ ranks-fit G p =
     omega arith)) in
     omega arith
 
--- the state stands for a position as long as the entries in use are kept: parts 0 and 1 up to the last taken vertex, and part 2
-stands-kept : (G : Graph) (p : Position) (s : State) (w w₁ : List ℕ) → Stands G p w s → length w₁ ≡ length w
-    → ((e : ℕ) → e < G .size + s .taken → getD w₁ e 0 ≡ getD w e 0) → ((e : ℕ) → 2 * G .size ≤ e → e < 3 * G .size → getD w₁ e 0 ≡ getD w e 0) → Stands G p w₁ s
-stands-kept G p s w w₁ h k f g =
+-- the state stands for a position as long as its entries are as they were
+stands-kept : (G : Graph) (p : Position) (s : State) (w w₁ : List ℕ) → Stands G p w s → StateKept (G .size) (s .taken) w w₁ → Stands G p w₁ s
+stands-kept G p s w w₁ h kept =
     let a = h .bound in
     let b = h .taken-bound in
     let c = h .left-bound in
+    let k = kept .length-kept in
     record {
       long = h .long;
       room = let r = h .room in omega arith;
@@ -77,9 +76,9 @@ stands-kept G p s w w₁ h k f g =
       bytes = h .bytes;
       decided = h .decided;
       still-open = h .still-open;
-      ranks = part-same w₁ w 0 (s .taken) k (λ e _ l. f e (omega arith)) ∙ h .ranks;
-      vertices = part-same w₁ w (G .size) (s .taken) k (λ e _ l. f e l) ∙ h .vertices;
-      left = part-same w₁ w (2 * G .size) (s .left) k (λ e o l. g e o (omega arith)) ∙ h .left;
+      ranks = part-same w₁ w 0 (s .taken) k (λ i l. kept .taken-ranks i (omega arith)) ∙ h .ranks;
+      vertices = part-same w₁ w (G .size) (s .taken) k (kept .members) ∙ h .vertices;
+      left = part-same w₁ w (2 * G .size) (s .left) k (λ i l. kept .left-ranks i (omega arith)) ∙ h .left;
       sum = h .sum;
       apart = h .apart;
     }
@@ -113,7 +112,7 @@ module _ {n : ℕ} {t ranks w : List ℕ} {q : Settings} {s : State} (a : Asks n
   symmetric = a .simple .symmetric
 
   pub taken-few : s .taken ≤ n
-  taken-few = let z = table-size n t in let b = h₀ .bound in let c = h₀ .taken-bound in omega arith
+  taken-few = let b = h₀ .bound in let c = h₀ .taken-bound in omega arith
 
   -- ---- what the tests say
 
@@ -122,7 +121,7 @@ module _ {n : ℕ} {t ranks w : List ℕ} {q : Settings} {s : State} (a : Asks n
 
   pub judged-open : s .decided < n → SaysQualifies n t w w q s false
   judged-open l =
-      still (λ p h. let z = table-size n t in let e = h .long in sym (found-open G p (settingsOf q) (s .decided) (omega arith) (h .still-open (s .decided) (omega arith))))
+      still (λ p h. let e = h .long in sym (found-open G p (settingsOf q) (s .decided) (omega arith) (h .still-open (s .decided) (omega arith))))
 
   pub length-taken : (p : Position) → Stands G p w s → length (takenList G p) ≡ s .taken
   length-taken p h = taken-length G p ∙ taken-count G p w s h
@@ -141,7 +140,7 @@ module _ {n : ℕ} {t ranks w : List ℕ} {q : Settings} {s : State} (a : Asks n
     tally-fits =
         record {
           ranks-fit = ranks-room (a .ranked);
-          work-fits = let r = h₀ .room in let z = table-size n t in omega arith;
+          work-fits = let r = h₀ .room in omega arith;
           some = some;
           few = taken-few;
           vertices = taken-low (a .ranked) (a .stands);
@@ -166,7 +165,7 @@ module _ {n : ℕ} {t ranks w : List ℕ} {q : Settings} {s : State} (a : Asks n
     some-listed p h = let l = length-taken p h in omega arith
 
     all-decided : (p : Position) → Stands G p w s → (r : ℕ) → r < G .size → (getD p r 0 ≡ 0 → ⊥)
-    all-decided p h r l = let z = table-size n t in h .decided r (omega arith)
+    all-decided p h r l = h .decided r (omega arith)
 
     found-is : (p : Position) → Stands G p w s
         → found (rules G (settingsOf q)) p ≡ (isolatedOf q (tallyOf G p) && not (beatenOf G q (tallyOf G p) (candidatesOf G p)))
@@ -185,7 +184,7 @@ module _ {n : ℕ} {t ranks w : List ℕ} {q : Settings} {s : State} (a : Asks n
       -- ---- the common neighbours
 
       left-few : s .left ≤ n
-      left-few = let z = table-size n t in let b = h₀ .bound in let c = h₀ .left-bound in omega arith
+      left-few = let b = h₀ .bound in let c = h₀ .left-bound in omega arith
 
       pub sifts : Sifts n t ranks w (s .taken) (s .left)
       unfolding leftRanks
@@ -209,13 +208,12 @@ module _ {n : ℕ} {t ranks w : List ℕ} {q : Settings} {s : State} (a : Asks n
       module _ {w₁ : List ℕ} {m : ℕ} (f : Sifted n t w w₁ (s .taken) (s .left) m) where
         candidates-are : (p : Position) → Stands G p w s → part w₁ (3 * n) m ≡ candidatesOf G p
         unfolding candidatesOf
-        candidates-are p h = f .holds ∙ ap₂ (λ (us vs : List ℕ). joinedOf G us (map (vertexAt G) vs)) (h .vertices) (h .left)
+        candidates-are p h = f .found .listed ∙ ap₂ (λ (us vs : List ℕ). joinedOf G us (map (vertexAt G) vs)) (h .vertices) (h .left)
 
         pub lent : Lent n t ranks w₁
         lent =
             let r = h₀ .room in
-            let z = table-size n t in
-            let k = f .kept .length-kept in
+            let k = f .found .kept .length-kept in
             record {
               table = a .ranked .fits;
               ranks-fit = ranks-room (a .ranked);
@@ -244,7 +242,6 @@ module _ {n : ℕ} {t ranks w : List ℕ} {q : Settings} {s : State} (a : Asks n
                 let c = taken-count G p₀ w s h₀ in
                 let d = left-count G p₀ w s h₀ in
                 let r = ranks-fit G p₀ in
-                let z = table-size n t in
                 let g = f .fewer in
                 omega arith
 
@@ -255,10 +252,9 @@ module _ {n : ℕ} {t ranks w : List ℕ} {q : Settings} {s : State} (a : Asks n
               answer = λ p h.
                   ap not (x .answer ∙ ap₂ (λ (z : Tally) (vs : List ℕ). beatenOf G q z vs) (e ∙ tally-is p h) (candidates-are p h))
                   ∙ sym (found-is p h ∙ ap (λ (d : Bool). d && not (beatenOf G q (tallyOf G p) (candidatesOf G p))) (isolated-is p h ∙ i));
-              stands = λ p h.
-                  let k = ap (λ (z : Tally). z .members) e in
-                  stands-kept G p s w w₂ h (x .kept .length-kept ∙ f .kept .length-kept)
-                  (λ i l. x .kept .below i (omega arith) ∙ f .kept .below i (let b = h .bound in let d = h .taken-bound in omega arith))
-                  (λ i o l. x .kept .above i o ∙ f .kept .below i l);
-              length-kept = x .kept .length-kept ∙ f .kept .length-kept;
+              stands = λ p h. stands-kept G p s w w₂ h kept;
+              length-kept = kept .length-kept;
             }
+          where
+            kept : StateKept n (s .taken) w w₂
+            kept = state-then (f .found .kept) (x .kept) (let k = ap (λ (z : Tally). z .members) e in omega arith)

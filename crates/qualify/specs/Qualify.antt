@@ -14,7 +14,7 @@ use Rattle.ranks.specs.Ranks.{RanksFit, HoldsRanks}
 use Rattle.isolation.specs.declared.Settings.{Settings}
 use Rattle.isolation.specs.declared.Tally.{Tally}
 use Rattle.isolation.specs.Numbers.{settingsOf}
-use Rattle.theory.specs.Parts.{part, Kept, HoldsVertices}
+use Rattle.theory.specs.Parts.{part, membersAt, leftRanksAt, degreesAt, HoldsVertices, CandidatesIn}
 use Rattle.graph.specs.Table.{graphOf}
 use Rattle.state.specs.declared.State.{State}
 use Rattle.state.specs.State.{leftRanks, degreesOf, Stands, StandsForOne}
@@ -34,14 +34,13 @@ pub record Sifts (n : ℕ) (t ranks w : List ℕ) (taken left : ℕ) : Type 0 wh
   pub room : 8 * n ≤ length w
   pub few-taken : taken ≤ n
   pub few-left : left ≤ n
-  pub vertices : HoldsVertices n w n taken
-  pub left-ranks : HoldsVertices n w (2 * n) left
+  pub vertices : HoldsVertices n w (membersAt n) taken
+  pub left-ranks : HoldsVertices n w (leftRanksAt n) left
 
--- what it leaves: m vertices in part 3, those of the left ones that are joined to each taken one
+-- what it leaves: in part 3 m vertices, those of the left ones that are joined to each taken one; and that the state's entries are as they were
 pub record Sifted (n : ℕ) (t before after : List ℕ) (taken left m : ℕ) : Type 0 where
   pub fewer : m ≤ left
-  pub holds : part after (3 * n) m ≡ joinedOf (graphOf n t) (part before n taken) (map (vertexAt (graphOf n t)) (part before (2 * n) left))
-  pub kept : Kept (3 * n) (3 * n + n) before after
+  pub found : CandidatesIn n taken (joinedOf (graphOf n t) (part before (membersAt n) taken) (map (vertexAt (graphOf n t)) (part before (leftRanksAt n) left))) before after m
 
 -- the taken set's numbers: how many, the sum of their degrees, the least, which is the first one's, and the largest, which is the last one's
 abbrev pub tallyOf : Graph → Position → Tally
@@ -59,8 +58,8 @@ readTally n ranks w s =
     record {
       members = s .taken;
       sum = s .sum;
-      least = getD ranks (n + getD w n 0) 0;
-      largest = getD ranks (n + getD w (n + (s .taken - 1)) 0) 0;
+      least = getD ranks (degreesAt n + getD w (membersAt n) 0) 0;
+      largest = getD ranks (degreesAt n + getD w (membersAt n + (s .taken - 1)) 0) 0;
     }
 
 -- what reading them asks for
@@ -69,7 +68,7 @@ pub record TallyFits (n : ℕ) (ranks w : List ℕ) (s : State) : Type 0 where
   pub work-fits : 8 * n ≤ length w
   pub some : 0 < s .taken
   pub few : s .taken ≤ n
-  pub vertices : HoldsVertices n w n (s .taken)
+  pub vertices : HoldsVertices n w (membersAt n) (s .taken)
 
 -- what `qualifies` asks for: the table of a graph of document 01 with its ranks, a factor that is not refused, and a state that stands for a position
 pub record Asks (n : ℕ) (t ranks w : List ℕ) (q : Settings) (s : State) : Type 0 where

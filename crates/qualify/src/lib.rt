@@ -13,7 +13,7 @@ use ranks::vertex_at;
 use state::State;
 
 // Writes those of the left neighbours of the pivot, whose ranks are the first `left` entries of part 2 of work, that are joined to each taken vertex, the
-// first `taken` entries of part 1, into part 3, and says how many. Writes nothing else.
+// first `taken` entries of part 1, into part 3, and says how many. Keeps the state's entries of work.
 // A larger clique is a clique with common neighbours of its members added (the common neighbourhood of document 002, section 2.2.3). With all ranks
 // decided each of these is left.
 fn candidates(

@@ -23,14 +23,13 @@ use Rattle.theory.proofs.basics.PassingParts.{passing-same, passing-count}
 use Rattle.theory.proofs.search.Members.{common-list}
 use Rattle.theory.proofs.search.Maximal.{qualifies-tally}
 use Rattle.ranks.specs.Ranks.{RanksFit}
-use Rattle.graph.proofs.Table.{table-size}
 use Rattle.isolation.specs.declared.Settings.{Settings}
 use Rattle.isolation.specs.declared.Tally.{Tally}
 use Rattle.isolation.specs.Numbers.{settingsOf, Small, isolatedOf, beatenOf, TallyOf}
 use Rattle.input.proofs.Refusals.{InputPassed}
-use Rattle.theory.specs.Parts.{part, Filled}
+use Rattle.theory.specs.Parts.{part, membersAt, candidatesAt, CandidatesIn}
 use Rattle.larger.specs.Search.{Lent, Posed, Tested}
-use Rattle.members.specs.Members.{HoldsMembers, pairwise, Tallies}
+use Rattle.members.specs.Members.{HoldsMembers, MembersIn, pairwise, Tallies}
 use Rattle.query.specs.Query.{QueryReady, Decided}
 use Rattle.theory.proofs.basics.Parts.{part-length, part-at}
 use Rattle.graph.specs.Table.{graphOf}
@@ -78,33 +77,32 @@ module _ {n : ℕ} {t ranks bs w₀ : List ℕ} {s : Settings} (ready : QueryRea
   work-fits = record { small = accepted .fits .small; parts = let r = accepted .enough in omega arith }
 
   -- after the members were written
-  module _ {w₁ : List ℕ} {k : ℕ} (wrote : Filled n (n + n) (passing n (is 1 bs)) w₀ w₁ k × (k ≤ n)) where
+  module _ {w₁ : List ℕ} {k : ℕ} (wrote : MembersIn n (passing n (is 1 bs)) w₀ w₁ k) where
     long : 8 * n ≤ length w₁
     long = let r = accepted .enough in omega arith
 
-    long-members : length (part w₁ n k) ≡ k
+    long-members : length (part w₁ (membersAt n) k) ≡ k
     long-members = let l = long in part-length w₁ n k (omega arith)
 
-    has-members : Members graph members (part w₁ n k)
+    has-members : Members graph members (part w₁ (membersAt n) k)
     has-members =
-        subst (λ (us : List ℕ). Members graph members us) (sym (wrote .0 .listed ∙ ap (λ (m : ℕ). passing m members) (sym (table-size n t)))) (passing-members graph members)
+        subst (λ (us : List ℕ). Members graph members us) (sym (wrote .listed)) (passing-members graph members)
 
     -- what the steps that read them require
     pub holds-members : HoldsMembers n w₁ k
     holds-members =
         record {
-          few = wrote .1;
+          few = wrote .few;
           parts = let l = long in omega arith;
           vertices = λ i h.
               let l = long-members in
               let a = has-members .sound i (omega arith) .0 in
-              let z = table-size n t in
               let p = part-at w₁ n k i h in
               omega arith;
         }
 
     decided : {r : Bool} → r ≡ qualifies graph (settingsOf s) members → Decided graph bs w₀ w₁ (settingsOf s) r
-    decided e = record { answer = e; length-kept = wrote .0 .kept .length-kept }
+    decided e = record { answer = e; length-kept = wrote .length-kept }
 
     -- a set that is no clique does not qualify
     not-clique : (Clique graph members → ⊥) → Decided graph bs w₀ w₁ (settingsOf s) false
@@ -115,25 +113,25 @@ module _ {n : ℕ} {t ranks bs w₀ : List ℕ} {s : Settings} (ready : QueryRea
     decide-empty e = not-clique (λ c. let m = has-members .complete _ (c .nonempty .1) .1 in let l = long-members in omega arith)
 
     -- pairwise joined, where there are members
-    cliques : k ≢ 0 → Test (pairwise graph (part w₁ n k)) (Clique graph members)
-    cliques some = clique-test graph symmetric members (part w₁ n k) has-members (let l = long-members in omega arith)
+    cliques : k ≢ 0 → Test (pairwise graph (part w₁ (membersAt n) k)) (Clique graph members)
+    cliques some = clique-test graph symmetric members (part w₁ (membersAt n) k) has-members (let l = long-members in omega arith)
 
     -- two members that are not joined
-    pub decide-apart : k ≢ 0 → pairwise graph (part w₁ n k) ≡ false → Decided graph bs w₀ w₁ (settingsOf s) false
+    pub decide-apart : k ≢ 0 → pairwise graph (part w₁ (membersAt n) k) ≡ false → Decided graph bs w₀ w₁ (settingsOf s) false
     decide-apart some e = not-clique (λ c. true≢false (sym (cliques some .1 c) ∙ e))
 
     -- there are members, they are pairwise joined, and y has their numbers
     pub record Counted (y : Tally) : Type 0 where
       pub some : k ≢ 0
-      pub joined : pairwise graph (part w₁ n k) ≡ true
-      pub tallies : Tallies n ranks (part w₁ n k) y
+      pub joined : pairwise graph (part w₁ (membersAt n) k) ≡ true
+      pub tallies : Tallies n ranks (part w₁ (membersAt n) k) y
 
     module _ {y : Tally} (counted : Counted y) where
       clique : Clique graph members
       clique = cliques (counted .some) .0 (counted .joined)
 
       tally : TallyOf graph members y
-      tally = counted .tallies graph (table-size n t) (ready .degrees) members has-members
+      tally = counted .tallies graph refl (ready .degrees) members has-members
 
       -- what the isolation test requires
       pub small-numbers : Small s (y .members)
@@ -144,7 +142,6 @@ module _ {n : ℕ} {t ranks bs w₀ : List ℕ} {s : Settings} (ready : QueryRea
                 let a = tally .members in
                 let b = both-fit graph members in
                 let d = accepted .fits .small in
-                let z = table-size n t in
                 omega arith;
           }
 
@@ -160,15 +157,14 @@ module _ {n : ℕ} {t ranks bs w₀ : List ℕ} {s : Settings} (ready : QueryRea
           ∙ ap (λ (b : Bool). b && not (beatenOf graph s y (passing (graph .size) (common graph members)))) e))
 
       module _ {w₂ : List ℕ} {m : ℕ}
-          (found : Filled (3 * n) (3 * n + n) (passing n (λ v. joinedAll graph v (part w₁ n k))) w₁ w₂ m × (m ≤ n)) where
-        candidates-are : part w₂ (3 * n) m ≡ passing (graph .size) (common graph members)
+          (found : CandidatesIn n k (passing n (λ v. joinedAll graph v (part w₁ (membersAt n) k))) w₁ w₂ m) where
+        candidates-are : part w₂ (candidatesAt n) m ≡ passing (graph .size) (common graph members)
         candidates-are =
-            found .0 .listed
-            ∙ passing-same n (λ v. joinedAll graph v (part w₁ n k)) (common graph members)
-            (λ v h. sym (common-list graph members (part w₁ n k) has-members loopless v (let z = table-size n t in omega arith)))
-            ∙ ap (λ (u : ℕ). passing u (common graph members)) (sym (table-size n t))
+            found .listed
+            ∙ passing-same n (λ v. joinedAll graph v (part w₁ (membersAt n) k)) (common graph members)
+            (λ v h. sym (common-list graph members (part w₁ (membersAt n) k) has-members loopless v h))
 
-        has-candidates : Candidates graph members (part w₂ (3 * n) m)
+        has-candidates : Candidates graph members (part w₂ (candidatesAt n) m)
         has-candidates = subst (λ (vs : List ℕ). Candidates graph members vs) (sym candidates-are) (passing-candidates graph members)
 
         -- what `beaten` requires
@@ -184,7 +180,6 @@ module _ {n : ℕ} {t ranks bs w₀ : List ℕ} {s : Settings} (ready : QueryRea
                     let b = both-fit graph members in
                     let c = ap length candidates-are in
                     let p = part-length w₂ (3 * n) m (omega arith) in
-                    let z = table-size n t in
                     omega arith;
                 loopless = loopless;
                 symmetric = symmetric;
@@ -200,7 +195,7 @@ module _ {n : ℕ} {t ranks bs w₀ : List ℕ} {s : Settings} (ready : QueryRea
             record {
               answer =
                   ap not (tested .answer)
-                  ∙ ap (λ (b : Bool). b && not (beatenOf graph s y (part w₂ (3 * n) m))) (sym isolated)
-                  ∙ sym (by-tally (part w₂ (3 * n) m) has-candidates);
-              length-kept = tested .kept .length-kept ∙ found .0 .kept .length-kept ∙ wrote .0 .kept .length-kept;
+                  ∙ ap (λ (b : Bool). b && not (beatenOf graph s y (part w₂ (candidatesAt n) m))) (sym isolated)
+                  ∙ sym (by-tally (part w₂ (candidatesAt n) m) has-candidates);
+              length-kept = tested .kept .length-kept ∙ found .kept .length-kept ∙ wrote .length-kept;
             }

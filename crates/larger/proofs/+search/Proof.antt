@@ -66,7 +66,7 @@ search-hopeless-requires t c κs =
     record { factor = start .pre .1 .1 .factor; members = omega arith }
 
 search-same-length : (t : ℕ) → search-lts.Need-same-length (claims t) (search-at t) search′.Post search-Inv-loop search-μ-loop
-search-same-length t c = c .before .before .before .loop .inv .kept .length-kept
+search-same-length t c = c .before .before .before .loop .inv .kept .state .length-kept
 
 search-returns : (t : ℕ) → search-lts.Need-returns (claims t) (search-at t) search′.Post search-Inv-loop search-μ-loop
 search-returns t c =
@@ -112,7 +112,7 @@ search-isolated-by-requires t c κs =
 
 search-same-length-2 : (t : ℕ) → search-lts.Need-same-length-2 (claims t) (search-at t) search′.Post search-Inv-loop search-μ-loop
 search-same-length-2 t c =
-    c .before .before .before .before .before .before .before .before .before .before .before .before .loop .inv .kept .length-kept
+    c .before .before .before .before .before .before .before .before .before .before .before .before .loop .inv .kept .state .length-kept
 
 search-returns-2 : (t : ℕ) → search-lts.Need-returns-2 (claims t) (search-at t) search′.Post search-Inv-loop search-μ-loop
 search-returns-2 t c =
@@ -130,7 +130,7 @@ search-same-length-3 : (t : ℕ) → search-lts.Need-same-length-3 (claims t) (s
 search-same-length-3 t c =
     let deep = c .before .before .before in
     let turn = deep .before .before .before .before .before .before .before .before .before .before .before .before .before in
-    deep .search .ensures .kept .length-kept ∙ simp length-set (turn .before .loop .inv .kept .length-kept)
+    deep .search .ensures .kept .state .length-kept ∙ simp length-set (turn .before .loop .inv .kept .state .length-kept)
 
 search-returns-3 : (t : ℕ) → search-lts.Need-returns-3 (claims t) (search-at t) search′.Post search-Inv-loop search-μ-loop
 search-returns-3 t c =
@@ -152,7 +152,7 @@ search-loop-again-2 t c =
     (sym (hope .before .hopeless .ensures) ∙ hope .if1 .left) (sym (c .if2 .left) ∙ c .before .joined-to-all .ensures)
 
 search-same-length-4 : (t : ℕ) → search-lts.Need-same-length-4 (claims t) (search-at t) search′.Post search-Inv-loop search-μ-loop
-search-same-length-4 t c = c .before .loop .inv .kept .length-kept
+search-same-length-4 t c = c .before .loop .inv .kept .state .length-kept
 
 search-returns-4 : (t : ℕ) → search-lts.Need-returns-4 (claims t) (search-at t) search′.Post search-Inv-loop search-μ-loop
 search-returns-4 t c = at-end (c .before .loop .inv) (c .loop-test .left)

@@ -22,7 +22,7 @@ search-requires c κs =
     (start .pre .0, posed-room (start .pre .0) (start .pre .1))
 
 same-length : tie.Need-same-length
-same-length c = c .before .before .search .ensures .kept .length-kept
+same-length c = c .before .before .search .ensures .kept .state .length-kept
 
 returns-3 : tie.Need-returns-3
 returns-3 c =

@@ -7,7 +7,7 @@ use native.Mathlib.Omega.{arith}
 use Rattle.model.specs.Below.{passing}
 use Rattle.theory.specs.Search.{joinedAll}
 use Rattle.theory.specs.Parts.{part, Filled}
-use Rattle.theory.proofs.basics.Parts.{same-members, filled-same, filled-none, filled-push, filled-pass}
+use Rattle.theory.proofs.basics.Parts.{same-members, filled-same, filled-none, filled-push, filled-pass, kept-state, filled-candidates}
 use Rattle.theory.proofs.basics.Passing.{passing-none, passing-hit, passing-miss, passing-end}
 use Rattle.graph.specs.Table.{graphOf}
 use Rattle.members.proofs.common_neighbours.Statement.{statement}
@@ -32,7 +32,7 @@ loop-again : tie.Need-loop-again Inv-loop μ-loop
 loop-again c =
     let b = c .before .before .before .before .before .before .before in
     let l = c .before .before .before .before .loop in
-    let same = same-members _ _ _ _ (l .inv .2 .kept) (b .pre .1 .few) in
+    let same = same-members (kept-state (l .inv .2 .kept) (b .pre .1 .few)) in
     let e = ap (joinedAll (graphOf (b .args .n) (b .args .table .now)) (l .v)) (sym same) ∙ sym (c .before .joined-to-all .ensures) in
     ⊎-elim
     (λ w. (omega arith, omega arith, filled-same (w .1) (w .2) (filled-push _ _ _ (l .inv .2) _ _ (passing-hit _ _ (e ∙ w .0 .taken)) (omega arith) (omega arith))))
@@ -43,7 +43,9 @@ same-length : tie.Need-same-length Inv-loop μ-loop
 same-length c = c .before .loop .inv .2 .kept .length-kept
 
 returns : tie.Need-returns Inv-loop μ-loop
-returns c = (filled-pass _ _ _ (c .before .loop .inv .2) _ (passing-end _ _ _ (omega arith) (omega arith)), omega arith)
+returns c =
+    let b = c .before .before .before .before in
+    filled-candidates (filled-pass _ _ _ (c .before .loop .inv .2) _ (passing-end _ _ _ (omega arith) (omega arith))) (b .pre .1 .few) (omega arith)
 
 pub common-neighbours-spec : {M : Type 1} → statement M
 common-neighbours-spec =

@@ -1,6 +1,7 @@
 -- `members::members_of` meets its contract: the members that were passed stand in part 1.
 -- Assumes nothing.
 use Prim.Native.Nat.{_+_, _-_, _≤_}
+use mathlib.Core.Path.{sym, _∙_}
 use mathlib.Core.Logic.{⊎-elim}
 use native.Mathlib.Omega.{arith}
 use borrow.Author.Tests.{eq-eqb, ne-eqb}
@@ -33,7 +34,9 @@ same-length : tie.Need-same-length Inv-loop μ-loop
 same-length c = c .before .loop .inv .2 .kept .length-kept
 
 returns : tie.Need-returns Inv-loop μ-loop
-returns c = (filled-pass _ _ _ (c .before .loop .inv .2) _ (passing-end _ _ _ (omega arith) (omega arith)), omega arith)
+returns c =
+    let s = c .before .loop .inv .2 in
+    record { listed = s .listed ∙ sym (passing-end _ _ _ (omega arith) (omega arith)); few = omega arith; length-kept = s .kept .length-kept }
 
 pub members-of-spec : {M : Type 1} → statement M
 members-of-spec =

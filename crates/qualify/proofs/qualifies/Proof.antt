@@ -56,7 +56,7 @@ beaten-requires c κs =
 same-length-2 : tie.Need-same-length-2
 same-length-2 c =
     let b = c .before .before in
-    b .beaten .ensures .kept .length-kept ∙ b .before .before .before .before .candidates .ensures .kept .length-kept
+    b .beaten .ensures .kept .length-kept ∙ b .before .before .before .before .candidates .ensures .found .kept .length-kept
 
 returns-5 : tie.Need-returns-5
 returns-5 c =

@@ -12,7 +12,7 @@ members-of-requires c κs =
     (work-fits (start .pre), accepted (start .pre) .long)
 
 same-length : tie.Need-same-length
-same-length c = c .before .before .before .members-of .ensures .0 .kept .length-kept
+same-length c = c .before .before .before .members-of .ensures .length-kept
 
 returns : tie.Need-returns
 returns c =
@@ -26,7 +26,7 @@ pairwise-joined-requires c κs =
     (accepted ready .fits, holds-members ready (wrote .members-of .ensures))
 
 same-length-2 : tie.Need-same-length-2
-same-length-2 c = c .before .before .before .before .before .before .members-of .ensures .0 .kept .length-kept
+same-length-2 c = c .before .before .before .before .before .before .members-of .ensures .length-kept
 
 returns-2 : tie.Need-returns-2
 returns-2 c =
@@ -54,7 +54,7 @@ isolated-by-requires : tie.Need-isolated-by-requires
 isolated-by-requires c κs = small-numbers _ _ (counted c)
 
 same-length-3 : tie.Need-same-length-3
-same-length-3 c = c .before .before .before .before .before .before .before .before .before .before .members-of .ensures .0 .kept .length-kept
+same-length-3 c = c .before .before .before .before .before .before .before .before .before .before .members-of .ensures .length-kept
 
 returns-3 : tie.Need-returns-3
 returns-3 c = decide-open _ _ (counted (c .before .before)) (sym (c .before .isolated-by .ensures) ∙ not-true _ (c .if3 .taken))
@@ -74,7 +74,7 @@ same-length-4 : tie.Need-same-length-4
 same-length-4 c =
     let tested = c .before .before in
     let found = tested .before .before .before .before in
-    tested .beaten .ensures .kept .length-kept ∙ found .common-neighbours .ensures .0 .kept .length-kept ∙ found .before .before .before .before .before .before .before .before .before .before .before .before .members-of .ensures .0 .kept .length-kept
+    tested .beaten .ensures .kept .length-kept ∙ found .common-neighbours .ensures .kept .length-kept ∙ found .before .before .before .before .before .before .before .before .before .before .before .before .members-of .ensures .length-kept
 
 returns-4 : tie.Need-returns-4
 returns-4 c =

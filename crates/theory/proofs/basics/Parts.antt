@@ -7,7 +7,8 @@ use native.Mathlib.Numerals.{add-one}
 use native.Mathlib.Omega.{arith}
 use lib.ListN.{length, getD, take, drop, set, length-take, length-drop, length-set}
 use lib.Seq.{drop-set-add, drop-set-lt, take-set-le, take-suc-set, getD-take, getD-drop, getD-set-other, ext-getD, take-take, take-at}
-use Rattle.theory.specs.Parts.{part, Kept, Filled}
+use mathlib.Core.Logic.{_⊎_, ⊎-elim}
+use Rattle.theory.specs.Parts.{part, SamePart, StateKept, Kept, Filled, CandidatesIn}
 
 pub part-length : (w : List ℕ) (a k : ℕ) → a + k ≤ length w → length (part w a k) ≡ k
 part-length w a k h = simp (length-take, length-drop) (omega arith)
@@ -16,7 +17,7 @@ pub part-at : (w : List ℕ) (a k j : ℕ) → j < k → getD (part w a k) j 0 �
 part-at w a k j h = getD-take k (drop a w) j 0 h ∙ getD-drop a w j 0
 
 -- two slices that agree on the entries of a part have one part there
-pub part-same : (w w₀ : List ℕ) (a k : ℕ) → length w ≡ length w₀ → ((e : ℕ) → a ≤ e → e < a + k → getD w e 0 ≡ getD w₀ e 0) → part w a k ≡ part w₀ a k
+pub part-same : (w w₀ : List ℕ) (a k : ℕ) → length w ≡ length w₀ → SamePart a k w₀ w → part w a k ≡ part w₀ a k
 part-same w w₀ a k e f = ext-getD 0 (part w a k) (part w₀ a k) (size w ∙ ap (λ (l : ℕ). min k (l - a)) e ∙ sym (size w₀)) at
   where
     size : (u : List ℕ) → length (part u a k) ≡ min k (length u - a)
@@ -25,7 +26,7 @@ part-same w w₀ a k e f = ext-getD 0 (part w a k) (part w₀ a k) (size w ∙ a
     at : (i : ℕ) → i < length (part w a k) → getD (part w a k) i 0 ≡ getD (part w₀ a k) i 0
     at i h =
         let l : i < k = let s = size w in omega arith in
-        part-at w a k i l ∙ f (a + i) (omega arith) (omega arith) ∙ sym (part-at w₀ a k i l)
+        part-at w a k i l ∙ f i l ∙ sym (part-at w₀ a k i l)
 
 -- a store right after the part makes it longer by one
 pub part-push : (w : List ℕ) (a k v : ℕ) → a + k < length w → part (set w (a + k) v) a (k + 1) ≡ part w a k ++ (v ∷ [])
@@ -52,7 +53,7 @@ part-take w a k m h = take-take m k (drop a w) h
 pub part-pop : (w : List ℕ) (a k v : ℕ) (l : List ℕ) → length l ≡ k → part w a (k + 1) ≡ l ++ (v ∷ []) → part w a k ≡ l
 part-pop w a k v l n e = sym (part-take w a (k + 1) k (omega arith)) ∙ ap (take k) e ∙ take-at l (v ∷ []) k n
 
--- what is kept where nothing was written, where one entry was, and where two functions wrote one after the other
+-- what is kept where nothing was written, and where one entry was
 pub kept-none : (a b : ℕ) (w : List ℕ) → Kept a b w w
 kept-none a b w = record { below = λ e h. refl; above = λ e h. refl; length-kept = refl }
 
@@ -64,25 +65,37 @@ kept-set a b w₀ w k i x h l =
       length-kept = simp length-set (k .length-kept);
     }
 
-pub kept-then : (a b c d : ℕ) (w₀ w w₁ : List ℕ) → Kept a b w₀ w → Kept c d w w₁ → a ≤ c → d ≤ b → Kept a b w₀ w₁
-kept-then a b c d w₀ w w₁ k l h g =
+-- a part below what was written
+pub part-below : (a b : ℕ) (w₀ w : List ℕ) → Kept a b w₀ w → (from k : ℕ) → from + k ≤ a → part w from k ≡ part w₀ from k
+part-below a b w₀ w kept from k h = part-same w w₀ from k (kept .length-kept) (λ i l. kept .below (from + i) (omega arith))
+
+-- ---- the state's entries are as they were
+
+-- where nothing was written, where an entry that is none of them was, and where two functions wrote one after the other
+pub state-none : {n k : ℕ} {w : List ℕ} → StateKept n k w w
+state-none = record { taken-ranks = λ i h. refl; members = λ i h. refl; left-ranks = λ i h. refl; length-kept = refl }
+
+pub state-set : {n k : ℕ} {w₀ w : List ℕ} → StateKept n k w₀ w → k ≤ n → (e x : ℕ) → n + k ≤ e → (e < 2 * n) ⊎ (3 * n ≤ e) → StateKept n k w₀ (set w e x)
+state-set {n} {k} {w₀} {w} a h e x l f =
     record {
-      below = λ e q. l .below e (omega arith) ∙ k .below e q;
-      above = λ e q. l .above e (omega arith) ∙ k .above e q;
-      length-kept = l .length-kept ∙ k .length-kept;
+      taken-ranks = λ i g. getD-set-other w e (0 + i) x 0 (λ q. omega arith) ∙ a .taken-ranks i g;
+      members = λ i g. getD-set-other w e (n + i) x 0 (λ q. omega arith) ∙ a .members i g;
+      left-ranks = λ i g. getD-set-other w e (2 * n + i) x 0 (λ q. ⊎-elim (λ m. omega arith) (λ m. omega arith) f) ∙ a .left-ranks i g;
+      length-kept = simp length-set (a .length-kept);
     }
 
--- a part below or above what was written
-module _ (a b : ℕ) (w₀ w : List ℕ) (kept : Kept a b w₀ w) (from k : ℕ) where
-  pub part-below : from + k ≤ a → part w from k ≡ part w₀ from k
-  part-below h = part-same w w₀ from k (kept .length-kept) (λ e g l. kept .below e (omega arith))
+pub state-then : {n k l : ℕ} {w₀ w w₁ : List ℕ} → StateKept n k w₀ w → StateKept n l w w₁ → k ≤ l → StateKept n k w₀ w₁
+state-then a b g =
+    record {
+      taken-ranks = λ i h. b .taken-ranks i h ∙ a .taken-ranks i h;
+      members = λ i h. b .members i (omega arith) ∙ a .members i h;
+      left-ranks = λ i h. b .left-ranks i h ∙ a .left-ranks i h;
+      length-kept = b .length-kept ∙ a .length-kept;
+    }
 
-  pub part-above : b ≤ from → part w from k ≡ part w₀ from k
-  part-above h = part-same w w₀ from k (kept .length-kept) (λ e g l. kept .above e (omega arith))
-
--- the k members in part 1, where only part 3 was written
-pub same-members : (n k : ℕ) (w₀ w : List ℕ) → Kept (3 * n) (3 * n + n) w₀ w → k ≤ n → part w n (n + k - n) ≡ part w₀ n k
-same-members n k w₀ w kept h = ap (part w n) short ∙ part-below _ _ w₀ w kept n k (omega arith)
+-- the k members, as a list
+pub same-members : {n k : ℕ} {w₀ w : List ℕ} → StateKept n k w₀ w → part w n (n + k - n) ≡ part w₀ n k
+same-members {n} {k} {w₀} {w} kept = ap (part w n) short ∙ part-same w w₀ n k (kept .length-kept) (kept .members)
   where
     short : n + k - n ≡ k
     short = omega arith
@@ -111,3 +124,17 @@ module _ (a b : ℕ) (w₀ : List ℕ) where
     -- one is passed over
     pub filled-pass : (m : List ℕ) → m ≡ l → Filled a b m w₀ w k
     filled-pass m e = record { listed = s .listed ∙ sym e; kept = s .kept }
+
+-- where only part 3 was written the state's entries are as they were
+pub kept-state : {n k : ℕ} {w₀ w : List ℕ} → Kept (3 * n) (3 * n + n) w₀ w → k ≤ n → StateKept n k w₀ w
+kept-state {n} kept h =
+    record {
+      taken-ranks = λ i l. kept .below (0 + i) (omega arith);
+      members = λ i l. kept .below (n + i) (omega arith);
+      left-ranks = λ i l. kept .below (2 * n + i) (omega arith);
+      length-kept = kept .length-kept;
+    }
+
+-- so a list that was written there is one of candidates
+pub filled-candidates : {n k m : ℕ} {l w₀ w : List ℕ} → Filled (3 * n) (3 * n + n) l w₀ w m → k ≤ n → m ≤ n → CandidatesIn n k l w₀ w m
+filled-candidates s h f = record { listed = s .listed; few = f; kept = kept-state (s .kept) h }
