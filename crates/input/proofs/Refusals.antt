@@ -13,7 +13,9 @@ use Rattle.theory.proofs.basics.Refusals.{else-none, else-found}
 use Rattle.theory.proofs.calls.Acceptance.{input-accepted-iff}
 use Rattle.graph.specs.Table.{TableFits, lent, graphOf}
 use Rattle.graph.proofs.Refusals.{table-fits, lent-simple}
-use Rattle.isolation.proofs.Refusals.{factor-small}
+use Rattle.isolation.specs.declared.Settings as code
+use Rattle.isolation.specs.Numbers.{settingsOf, FactorFits}
+use Rattle.isolation.proofs.Refusals.{factor-fits}
 
 module _ (L : LentGraph) (s : Settings) (bytes work : ℕ) where
   -- ---- test by test
@@ -54,21 +56,21 @@ module _ (L : LentGraph) (s : Settings) (bytes work : ℕ) where
 -- ---- what passes them
 
 -- what a call has that passes 1 to 10
-pub record InputPassed (n : ℕ) (t : List ℕ) (s : Settings) (bytes work : ℕ) : Type 0 where
+pub record InputPassed (n : ℕ) (t : List ℕ) (q : code.Settings) (bytes work : ℕ) : Type 0 where
   pub fits : TableFits n t
   pub simple : Simple (graphOf n t)
-  pub factor : s .factor ≤ 1024
+  pub factor : FactorFits q
   pub long : bytes ≡ n
   pub enough : 8 * n ≤ work
 
 -- a call that passes them has it
-pub input-passed : (n : ℕ) (t : List ℕ) (s : Settings) (bytes work : ℕ) → refuseInput (lent n t) s bytes work ≡ 0 → InputPassed n t s bytes work
-input-passed n t s bytes work e =
-    let a = input-accepted-iff (lent n t) s bytes work .0 e in
+pub input-passed : (n : ℕ) (t : List ℕ) (q : code.Settings) (bytes work : ℕ) → refuseInput (lent n t) (settingsOf q) bytes work ≡ 0 → InputPassed n t q bytes work
+input-passed n t q bytes work e =
+    let a = input-accepted-iff (lent n t) (settingsOf q) bytes work .0 e in
     record {
       fits = table-fits n t (a .no-fault);
       simple = lent-simple n t (a .no-fault);
-      factor = factor-small s (a .proper);
+      factor = factor-fits q (a .proper);
       long = a .long;
       enough = a .enough;
     }

@@ -17,26 +17,30 @@ settingsOf s = record { notion = s .notion; kind = s .kind; factor = s .factor }
 abbrev pub withMember : Tally → ℕ → Tally
 withMember t d = record { members = t .members + 1; sum = t .sum + d; least = min (t .least) d; largest = max (t .largest) d }
 
--- what keeps the sums and products of a test small: the factor and the number of members are at most 1,024
+-- the factor's bound, as settings that are not refused have it: it is at most 1,024
+unfoldable pub FactorFits : Settings → Type 0
+FactorFits s = s .factor ≤ 1024
+
+-- what keeps the sums and products of a test small: the factor fits, and the number of members is at most 1,024
 pub record Small (s : Settings) (k : ℕ) : Type 0 where
-  pub factor : s .factor ≤ 1024
+  pub factor : FactorFits s
   pub members : k ≤ 1024
 
 -- the isolation test of a clique with these numbers
 abbrev pub isolatedOf : Settings → Tally → Bool
-isolatedOf s t = search.isolatedBy (s .notion) (s .factor) (t .members) (t .sum) (t .least) (t .largest)
+isolatedOf s t = search.isolatedBy (s .notion) (settingsOf s .factor) (t .members) (t .sum) (t .least) (t .largest)
 
 -- no superset within r further candidates is isolated
 abbrev pub hopelessOf : Settings → Tally → ℕ → Bool
-hopelessOf s t r = search.hopeless (s .notion) (s .factor) (t .members) r (t .sum) (t .largest)
+hopelessOf s t r = search.hopeless (s .notion) (settingsOf s .factor) (t .members) r (t .sum) (t .largest)
 
 -- the search that leaves a hopeless branch
 abbrev pub findOf : Graph → Settings → List ℕ → Tally → List ℕ → Bool
-findOf G s added t vs = search.findCut G (s .notion) (s .factor) added (t .members) (t .sum) (t .least) (t .largest) vs
+findOf G s added t vs = search.findCut G (s .notion) (settingsOf s .factor) added (t .members) (t .sum) (t .least) (t .largest) vs
 
 -- whether an isolated clique with these numbers and the candidates vs is not maximal
 abbrev pub beatenOf : Graph → Settings → Tally → List ℕ → Bool
-beatenOf G s t vs = search.beaten G (s .kind) (s .notion) (s .factor) (t .members) (t .sum) (t .least) (t .largest) vs
+beatenOf G s t vs = search.beaten G (s .kind) (s .notion) (settingsOf s .factor) (t .members) (t .sum) (t .least) (t .largest) vs
 
 -- the numbers are those of the set
 abbrev pub TallyOf : Graph → groups.VertexSet → Tally → Type 0

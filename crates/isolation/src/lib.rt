@@ -2,7 +2,6 @@
 ghost use mathlib.Core.Path.{_≡_};
 ghost use Prim.Native.Nat.{_+_, _-_, _*_, _<_, _≤_, min, max};
 ghost use Rattle.model.specs.Groups.{within};
-ghost use Rattle.model.specs.Listing.{is};
 ghost use Rattle.model.specs.Calls.{refuseSettings};
 ghost use Rattle.isolation.specs.Numbers.{settingsOf, withMember, Small, isolatedOf, hopelessOf};
 
@@ -41,7 +40,7 @@ pub fn settings_refusal(s: Settings) -> u32
 }
 
 // a less b, and 0 where b is larger.
-fn less(a: usize, b: usize) -> usize
+pub fn less(a: usize, b: usize) -> usize
     ensures { λ r. ⌜ r ≡ a - b ⌝ }
 {
     if a < b { 0 } else { a - b }
@@ -61,12 +60,12 @@ fn greater(a: usize, b: usize) -> usize
     if a < b { b } else { a }
 }
 
-// Whether x is less than c × k: the one comparison with the factor. Document 002, section 2.1: "less than", never "at most".
-fn within(c: u32, k: usize, x: usize) -> bool
-    requires { ⌜ (c ≤ 1024) × (k ≤ 1024) ⌝ }
-    ensures { λ r. ⌜ r ≡ within c k x ⌝ }
+// Whether x is less than c × k, c being the factor of the settings: the one comparison with it. Document 002, section 2.1: "less than", never "at most".
+pub fn within(s: Settings, k: usize, x: usize) -> bool
+    requires { ⌜ Small s k ⌝ }
+    ensures { λ r. ⌜ r ≡ within (settingsOf s .factor) k x ⌝ }
 {
-    let bound = (c as usize) * k;
+    let bound = (s.factor as usize) * k;
     x < bound
 }
 
@@ -78,12 +77,12 @@ pub fn isolated_by(s: Settings, t: Tally) -> bool
 {
     let others = less(t.members, 1);
     if s.notion == 0 {
-        return within(s.factor, 1, less(t.least, others));
+        return within(s, 1, less(t.least, others));
     }
     if s.notion == 1 {
-        return within(s.factor, t.members, less(t.sum, t.members * others));
+        return within(s, t.members, less(t.sum, t.members * others));
     }
-    within(s.factor, 1, less(t.largest, others))
+    within(s, 1, less(t.largest, others))
 }
 
 // Whether no superset of a set with the numbers t, within r further candidates, is isolated: each member loses at most r more of its neighbours outside.
@@ -98,9 +97,9 @@ pub fn hopeless(s: Settings, t: Tally, r: usize) -> bool
         return false;
     }
     if s.notion == 1 {
-        return !within(s.factor, all, less(t.sum, t.members * most));
+        return !within(s, all, less(t.sum, t.members * most));
     }
-    !within(s.factor, 1, less(t.largest, most))
+    !within(s, 1, less(t.largest, most))
 }
 
 // The numbers t with one more member, of degree d.

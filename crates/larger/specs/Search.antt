@@ -12,7 +12,7 @@ use Rattle.graph.specs.Table.{TableFits, graphOf}
 use Rattle.ranks.specs.Ranks.{RanksFit, HoldsDegrees}
 use Rattle.isolation.specs.declared.Settings.{Settings}
 use Rattle.isolation.specs.declared.Tally.{Tally}
-use Rattle.isolation.specs.Numbers.{findOf, beatenOf, TallyOf}
+use Rattle.isolation.specs.Numbers.{FactorFits, findOf, beatenOf, TallyOf}
 use Rattle.theory.specs.Parts.{part, membersAt, candidatesAt, SamePart, StateKept, HoldsVertices}
 
 -- the table holds a graph of n vertices, the ranks its degrees, and the work slice has the parts 0 to 3
@@ -25,7 +25,7 @@ pub record Lent (n : ℕ) (t ranks w : List ℕ) : Type 0 where
 -- A state of the search: of the members with the numbers y those from place base on in part 1 were added by it, and candidates i to m - 1 of part 3
 -- are left. There is room in part 1 for these, and the sum of degrees is small.
 pub record Room (n : ℕ) (w : List ℕ) (s : Settings) (y : Tally) (base i m : ℕ) : Type 0 where
-  pub factor : s .factor ≤ 1024
+  pub factor : FactorFits s
   pub from : base ≤ y .members
   pub left : y .members + (m - i) ≤ n
   pub few : m ≤ n
@@ -47,7 +47,7 @@ pub record Searched (n : ℕ) (t before after : List ℕ) (s : Settings) (y : Ta
 -- part 3 are its common neighbours. There is room in part 1 for the members and these.
 pub record Posed (n : ℕ) (t w : List ℕ) (s : Settings) (y : Tally) (m : ℕ) : Type 0 where
   pub set : VertexSet
-  pub factor : s .factor ≤ 1024
+  pub factor : FactorFits s
   pub room : y .members + m ≤ n
   pub loopless : Loopless (graphOf n t)
   pub symmetric : Symmetric (graphOf n t)

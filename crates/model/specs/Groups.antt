@@ -26,7 +26,7 @@ abbrev pub settings : ℕ → ℕ → ℕ → Settings
 settings notion kind c = record { notion = notion; kind = kind; factor = c }
 
 -- x is less than c × k: the one comparison with the factor. Document 002, section 2.1: "less than", never "at most"
-abbrev pub within : Factor → ℕ → ℕ → Bool
+unfoldable pub within : Factor → ℕ → ℕ → Bool
 within c k x = ltb x (c * k)
 
 -- how many members

@@ -45,7 +45,7 @@ pub record Clique (G : Graph) (S : VertexSet) : Type 0 where
   pub pairwise : (u v : ℕ) → In G S u → In G S v → u ≢ v → G .joined u v ≡ true
 
 -- x is less than c × k
-abbrev pub Under : Factor → ℕ → ℕ → Type 0
+unfoldable pub Under : Factor → ℕ → ℕ → Type 0
 Under c k x = x < c * k
 
 -- Document 002, section 2.1. Notion 0, min: some member has outside count less than c, that is c × 1; notion 1, avg: the outside counts sum

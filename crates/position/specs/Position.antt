@@ -1,20 +1,18 @@
--- What the refusals of a position read, and what their parts find.
+-- What the refusals of a position find.
 -- Assumes nothing.
 use Prim.Native.Nat.{ℕ}
-use mathlib.Core.Bool.{Bool, _&&_, not}
-use Rattle.model.specs.Below.{any}
+use mathlib.Core.Path.{_≡_}
+use mathlib.Core.List.{List}
 use Rattle.model.specs.Graph.{Graph}
 use Rattle.model.specs.Walk.{Position}
-use Rattle.model.specs.Listing.{is, adjacent}
+use Rattle.model.specs.Listing.{rules}
+use Rattle.model.specs.Calls.{reopened, refusePosition}
+use Rattle.isolation.specs.declared.Settings.{Settings}
+use Rattle.isolation.specs.Numbers.{settingsOf}
+use Rattle.state.specs.State.{Stands}
+use Rattle.position.specs.declared.Opening.{Opening}
 
--- rank i is taken and not adjacent to rank s
-abbrev pub stranger : Graph → Position → ℕ → ℕ → Bool
-stranger G p s i = is 1 p i && not (adjacent G i s)
-
--- rank s is taken, and so is some rank below it that is not adjacent to it
-unfoldable pub apartAt : Graph → Position → ℕ → Bool
-apartAt G p s = is 1 p s && any s (stranger G p s)
-
--- rank i is left and adjacent to rank r
-abbrev pub leftNeighbour : Graph → Position → ℕ → ℕ → Bool
-leftNeighbour G p r i = is 2 p i && adjacent G r i
+-- the refusal number is that of the position, and where it is 0 the state and the memory stand for the position with its last decided rank opened
+pub record Judged (G : Graph) (q : Settings) (p : Position) (memory : List ℕ) (o : Opening) : Type 0 where
+  pub refusal : o .refusal ≡ refusePosition (rules G (settingsOf q)) p
+  pub stands : o .refusal ≡ 0 → Stands G (reopened p) memory (o .state)

@@ -13,7 +13,7 @@ use Rattle.theory.specs.Search.{joinedAll}
 use Rattle.ranks.specs.Ranks.{RanksFit, HoldsRanks}
 use Rattle.isolation.specs.declared.Settings.{Settings}
 use Rattle.isolation.specs.declared.Tally.{Tally}
-use Rattle.isolation.specs.Numbers.{settingsOf}
+use Rattle.isolation.specs.Numbers.{settingsOf, FactorFits}
 use Rattle.theory.specs.Parts.{part, membersAt, leftRanksAt, degreesAt, HoldsVertices, CandidatesIn}
 use Rattle.graph.specs.Table.{graphOf}
 use Rattle.state.specs.declared.State.{State}
@@ -74,7 +74,7 @@ pub record TallyFits (n : ℕ) (ranks w : List ℕ) (s : State) : Type 0 where
 pub record Asks (n : ℕ) (t ranks w : List ℕ) (q : Settings) (s : State) : Type 0 where
   pub ranked : HoldsRanks n t ranks
   pub simple : Simple (graphOf n t)
-  pub factor : q .factor ≤ 1024
+  pub factor : FactorFits q
   pub stands : StandsForOne (graphOf n t) w s
 
 -- its answer for each position for which the state stands, and that the state still stands for it

@@ -64,8 +64,8 @@ module _ {n : ℕ} {t ranks bs w₀ : List ℕ} {s : Settings} (ready : QueryRea
   abbrev members : VertexSet
   members = byBytes bs
 
-  pub accepted : InputPassed n t (settingsOf s) (length bs) (length w₀)
-  accepted = query-accepted n t (settingsOf s) bs (length w₀) (ready .accepted)
+  pub accepted : InputPassed n t s (length bs) (length w₀)
+  accepted = query-accepted n t s bs (length w₀) (ready .accepted)
 
   loopless : Loopless graph
   loopless = accepted .simple .loopless

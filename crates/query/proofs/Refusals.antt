@@ -11,6 +11,8 @@ use Rattle.model.specs.Groups.{Settings}
 use Rattle.model.specs.Calls.{refuse, over, refuseInput, refuseQuery}
 use Rattle.theory.proofs.basics.Refusals.{else-none, else-found, else-passed}
 use Rattle.graph.specs.Table.{lent}
+use Rattle.isolation.specs.declared.Settings as code
+use Rattle.isolation.specs.Numbers.{settingsOf}
 use Rattle.input.proofs.Refusals.{InputPassed, input-passed}
 
 module _ (L : LentGraph) (s : Settings) (bs : List ℕ) (work : ℕ) where
@@ -25,6 +27,6 @@ module _ (L : LentGraph) (s : Settings) (bs : List ℕ) (work : ℕ) where
   query-bytes e z o = sym (else-none (sym e ∙ z) _ ∙ rw o)
 
 -- an accepted set query passes 1 to 10
-pub query-accepted : (n : ℕ) (t : List ℕ) (s : Settings) (bs : List ℕ) (work : ℕ) → refuseQuery (lent n t) s bs work ≡ 0 → InputPassed n t s (length bs) work
+pub query-accepted : (n : ℕ) (t : List ℕ) (q : code.Settings) (bs : List ℕ) (work : ℕ) → refuseQuery (lent n t) (settingsOf q) bs work ≡ 0 → InputPassed n t q (length bs) work
 unfolding refuseQuery
-query-accepted n t s bs work h = input-passed n t s (length bs) work (else-passed (refuseInput (lent n t) s (length bs) work) _ h .0)
+query-accepted n t q bs work h = input-passed n t q (length bs) work (else-passed (refuseInput (lent n t) (settingsOf q) (length bs) work) _ h .0)

@@ -7,19 +7,19 @@ use mathlib.Core.List.{List}
 use mathlib.Core.Logic.{_≢_}
 use native.Mathlib.Omega.{arith}
 use lib.ListN.{length}
-use Rattle.model.specs.Walk.{Position, Rules, finished, step, found, page}
+use Rattle.model.specs.Walk.{Position, Rules, finished, found, page}
 use Rattle.model.specs.Listing.{rules}
 use Rattle.model.specs.Calls.{replyOf}
 use Rattle.graph.specs.Table.{graphOf}
 use Rattle.graph.proofs.Table.{table-size}
 use Rattle.isolation.specs.declared.Settings.{Settings}
-use Rattle.isolation.specs.Numbers.{settingsOf}
+use Rattle.isolation.specs.Numbers.{settingsOf, FactorFits}
 use Rattle.state.specs.declared.State.{State}
 use Rattle.emit.specs.declared.Put.{Put}
 use Rattle.state.specs.State.{Stands, SaysFinished}
 use Rattle.qualify.specs.Qualify.{Asks}
 use Rattle.emit.specs.Emit.{PutAt, Emitted}
-use Rattle.walk.specs.Walk.{rulesAt, Passes, Walking, Stepped}
+use Rattle.walk.specs.Walk.{Passes, Walking, Stepped}
 use Rattle.rounds.specs.Turn.{Turn}
 use Rattle.rounds.specs.declared.Stop.{Stop}
 use Rattle.rounds.specs.declared.Stop.the-variants.{Full}
@@ -34,20 +34,15 @@ callRules n t q = rules (graphOf n t) (settingsOf q)
 pub record Running (n : ℕ) (t ranks : List ℕ) (q : Settings) (budget : ℕ) (p₀ : Position) (out₀ w₀ : List ℕ) (p : Position) (out w : List ℕ) (s : State)
     (steps groups used wanted : ℕ) : Type 0 where
   pub turn : Turn (callRules n t q) budget p₀ out₀ steps groups used p out
-  pub walking : Walking n (q .factor) t ranks p w s
-  pub factor : q .factor ≤ 1024
+  pub walking : Walking n (settingsOf q) t ranks p w s
+  pub factor : FactorFits q
   pub none-wanted : wanted ≡ 0
   pub work-long : length w ≡ length w₀
   pub position-long : length p ≡ length p₀
 
--- a step does not look at notion and kind
-step-same : (n : ℕ) (t : List ℕ) (q : Settings) (p : Position) → step (rulesAt (graphOf n t) (q .factor)) p ≡ step (callRules n t q) p
-unfolding step
-step-same n t q p = refl
-
 -- before the first round
-pub running-start : {n : ℕ} {t ranks : List ℕ} {q : Settings} {p : Position} {w : List ℕ} {s : State} {budget : ℕ} {out : List ℕ} → Walking n (q .factor) t ranks p w s
-    → q .factor ≤ 1024 → Running n t ranks q budget p out w p out w s 0 0 0 0
+pub running-start : {n : ℕ} {t ranks : List ℕ} {q : Settings} {p : Position} {w : List ℕ} {s : State} {budget : ℕ} {out : List ℕ} → Walking n (settingsOf q) t ranks p w s
+    → FactorFits q → Running n t ranks q budget p out w p out w s 0 0 0 0
 running-start h f =
     record { turn = turn-start _ _ _ _; walking = h; factor = f; none-wanted = refl; work-long = refl; position-long = refl }
 
@@ -78,7 +73,7 @@ module _ {n : ℕ} {t ranks : List ℕ} {q : Settings} {budget : ℕ} {p₀ : Po
     at = e .put p (r .walking .stands)
 
     -- the state still stands
-    pub still-walking : Walking n (q .factor) t ranks p w₁ s
+    pub still-walking : Walking n (settingsOf q) t ranks p w₁ s
     still-walking =
         record { simple = r .walking .simple; ranked = r .walking .ranked; stands = e .stands p (r .walking .stands); passes = r .walking .passes }
 
@@ -93,19 +88,19 @@ module _ {n : ℕ} {t ranks : List ℕ} {q : Settings} {budget : ℕ} {p₀ : Po
             let m = more unspent in
             omega arith
 
-        pub running-on : {p₂ : Position} {w₂ : List ℕ} {s₂ : State} → Stepped (graphOf n t) (q .factor) p p₂ w₂ s₂ → length w₂ ≡ length w₀ → length p₂ ≡ length p
+        pub running-on : {p₂ : Position} {w₂ : List ℕ} {s₂ : State} → Stepped (graphOf n t) (settingsOf q) p p₂ w₂ s₂ → length w₂ ≡ length w₀ → length p₂ ≡ length p
             → Running n t ranks q budget p₀ out₀ w₀ p₂ out₁ w₂ s₂ (steps + 1) (groups + put .groups) (put .used) wanted
         running-on {p₂} {w₂} {s₂} m l k =
             record {
               turn =
                   turn-step (r .turn) (says f ∙ unfinished) (more unspent) (let a = at .fits fits in let o = output-long in omega arith) (at .groups fits) (at .used-then fits)
-                  (m .position ∙ step-same n t q p) (at .written fits);
+                  (m .position) (at .written fits);
               walking =
                   record {
                     simple = r .walking .simple;
                     ranked = r .walking .ranked;
                     stands = subst⁻¹ (λ (x : Position). Stands (graphOf n t) x w₂ s₂) (m .position) (m .stands);
-                    passes = subst⁻¹ (λ (x : Position). Passes (graphOf n t) (q .factor) x) (m .position) (m .passes);
+                    passes = subst⁻¹ (λ (x : Position). Passes (graphOf n t) (settingsOf q) x) (m .position) (m .passes);
                   };
               factor = r .factor;
               none-wanted = r .none-wanted;

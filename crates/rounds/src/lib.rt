@@ -6,7 +6,7 @@ ghost use Rattle.model.specs.Walk.{page};
 ghost use Rattle.model.specs.Listing.{rules};
 ghost use Rattle.model.specs.Calls.{replyOf};
 ghost use Rattle.graph.specs.Table.{graphOf};
-ghost use Rattle.isolation.specs.Numbers.{settingsOf};
+ghost use Rattle.isolation.specs.Numbers.{settingsOf, FactorFits};
 ghost use Rattle.walk.specs.Walk.{Walking};
 ghost use Rattle.rounds.specs.Answer.{stopNumber, PageReplies};
 use emit::emit;
@@ -58,14 +58,13 @@ pub fn run(
     first: State,
     budget: u32,
 ) -> PageAnswer
-    requires { ⌜ Walking n (q .factor) (now table) (now ranks) (now position) (now work) first × (q .factor ≤ 1024) ⌝ }
+    requires { ⌜ Walking n (settingsOf q) (now table) (now ranks) (now position) (now work) first × FactorFits q ⌝ }
     ensures { λ r. ⌜
         PageReplies r (now (position .exit)) (now (output .exit))
         (replyOf 0 (page (rules (graphOf n (now (table .entry))) (settingsOf q)) budget (length (now (output .entry))) (now (position .entry)))
         (now (position .entry)) (now (output .entry)))
         ⌝ }
 {
-    let c = q.factor as usize;
     let mut s = first;
     let mut steps: u32 = 0;
     let mut groups: u32 = 0;
@@ -85,7 +84,7 @@ pub fn run(
         }
         used = put.used;
         groups += put.groups;
-        s = step(s, table, ranks, n, c, position, work);
+        s = step(s, table, ranks, n, q, position, work);
         steps += 1;
     };
     PageAnswer {

@@ -4,17 +4,18 @@ use Prim.Native.Nat.{ℕ, _+_, _-_, _*_, _≤_, _<_, zero-le}
 use mathlib.Core.Path.{_≡_, refl, sym, ap, _∙_, subst}
 use mathlib.Core.Bool.{false, true≢false}
 use mathlib.Core.List.{List, [], _++_}
-use mathlib.Core.Logic.{_⊎_, inl, inr, ⊎-elim}
+use mathlib.Core.Logic.{_≢_, _⊎_, inl, inr, ⊎-elim}
 use native.Mathlib.Omega.{arith}
 use lib.ListN.{length, getD, take, set, length-append, length-set, length-replicate, List·getD-append}
-use lib.Seq.{length-take-le, getD-take, getD-append-add, getD-set-same, getD-set-other, ext-getD}
+use lib.Seq.{length-take-le, getD-take, getD-append-add, getD-set-same, getD-set-other, set-getD, ext-getD}
+use Rattle.model.specs.Below.{least}
 use Rattle.model.specs.Graph.{Graph}
 use Rattle.model.specs.Walk.{Position, fresh}
-use Rattle.model.specs.Listing.{takenList}
-use Rattle.model.specs.Calls.{over, gap}
-use Rattle.theory.proofs.basics.Tests.{in-length, not-different, last-or-below, lt-or-ge}
+use Rattle.model.specs.Listing.{is, takenList}
+use Rattle.model.specs.Calls.{over, gap, reopened}
+use Rattle.theory.proofs.basics.Tests.{last-or-below, lt-or-ge, trichotomy}
 use Rattle.theory.proofs.basics.Passing.{no-entries}
-use Rattle.theory.proofs.calls.DeadPosition.{gap-test}
+use Rattle.theory.proofs.walk.Scans.{least-le, decided-below, open-from}
 use Rattle.theory.proofs.walk.Remaining.{open-zero, fresh-open}
 use Rattle.graph.proofs.Refusals.{over-found}
 use Rattle.state.specs.State.{takenRanks, degreesOf, Stands}
@@ -107,28 +108,64 @@ module _ (p : Position) (d : ℕ) (h : d < length p) where
         then-open = λ r l. getD-set-other p d r x 0 (λ z. omega arith) ∙ clear r (omega arith);
       }
 
--- where all ranks from d on are open already, nothing is opened
-opened-same : (p : Position) (d : ℕ) → d ≤ length p → ((r : ℕ) → d ≤ r → getD p r 0 ≡ 0) → opened d p ≡ p
-opened-same p d h clear = ext-getD 0 (opened d p) p (opened-length d p h) (λ r l. at r (lt-or-ge r d))
+-- the last decided rank is opened by one store
+reopened-set : (p : Position) → reopened p ≡ set p (least (length p) (is 0 p) - 1) 0
+unfolding reopened
+reopened-set p = refl
+
+-- without a gap, this from the last decided rank on is the position with that rank opened
+pub reopened-is : (p : Position) → gap p ≡ false → opened (least (length p) (is 0 p) - 1) p ≡ reopened p
+reopened-is p g =
+    ext-getD 0 (opened k p) (set p k 0) (opened-length k p h ∙ sym (length-set p k 0)) (λ r l. at r (omega (arith, opened-length k p h)) (trichotomy r k))
+    ∙ sym (reopened-set p)
   where
-    at : (r : ℕ) → (r < d) ⊎ (d ≤ r) → getD (opened d p) r 0 ≡ getD p r 0
-    at r (inl l) = opened-below d p h r l
-    at r (inr l) = opened-above d p h r l ∙ sym (clear r l)
+    k : ℕ
+    k = least (length p) (is 0 p) - 1
 
--- so a state that stands for it stands for the position
-pub stands-whole : {G : Graph} {p : Position} {w : List ℕ} {s : State} → Stands G (opened (s .decided) p) w s → s .decided ≤ length p
-    → ((r : ℕ) → s .decided ≤ r → getD p r 0 ≡ 0) → Stands G p w s
-stands-whole {G} {p} {w} {s} St h clear = subst (λ (q : Position). Stands G q w s) (opened-same p (s .decided) h clear) St
+    h : k ≤ length p
+    h = omega (arith, least-le (length p) (is 0 p))
 
--- without a gap all ranks after an open one are open
-pub gapless : (p : Position) → gap p ≡ false → (d : ℕ) → getD p d 0 ≡ 0 → (r : ℕ) → d ≤ r → getD p r 0 ≡ 0
-gapless p g d z r l =
-    not-different (getD p r 0) 0
-    (λ o.
-    ⊎-elim
-    (λ b. true≢false (sym (gap-test p .1 (d, r, b, in-length p r o, z, o)) ∙ g))
-    (λ b. let e : r ≡ d = omega arith in o (ap (λ (i : ℕ). getD p i 0) e ∙ z))
-    (lt-or-ge d r))
+    at : (r : ℕ) → r < length p → (r < k) ⊎ (r ≡ k) ⊎ (k < r) → getD (opened k p) r 0 ≡ getD (set p k 0) r 0
+    at r b (inl l) = opened-below k p h r l ∙ sym (getD-set-other p k r 0 0 (λ z. omega arith))
+    at r b (inr (inl e)) = opened-above k p h r (omega arith) ∙ sym (ap (λ (i : ℕ). getD (set p k 0) i 0) e ∙ getD-set-same p k 0 0 (omega arith))
+    at r b (inr (inr l)) = opened-above k p h r (omega arith) ∙ sym (getD-set-other p k r 0 0 (λ z. omega arith) ∙ open-from p g r (omega arith))
+
+-- ---- the position built up from there, by the state that stands for it with its last decided rank opened
+
+module _ {G : Graph} (p : Position) {w : List ℕ} {s : State} (St : Stands G (reopened p) w s) where
+  -- that rank comes next
+  next-last : reopened p ≡ set p (s .decided) 0
+  next-last = reopened-set p ∙ ap (λ (k : ℕ). set p k 0) (sym (go (trichotomy (s .decided) last)))
+    where
+      last : ℕ
+      last = least (length p) (is 0 p) - 1
+
+      mark : (r : ℕ) → getD (reopened p) r 0 ≡ getD (set p last 0) r 0
+      mark r = ap (λ (x : Position). getD x r 0) (reopened-set p)
+
+      go : (s .decided < last) ⊎ (s .decided ≡ last) ⊎ (last < s .decided) → s .decided ≡ last
+      go (inl l) =
+          let z = sym (getD-set-other p last (s .decided) 0 0 (λ e. omega arith)) ∙ sym (mark (s .decided)) ∙ St .still-open (s .decided) (omega arith) in
+          absurd (decided-below p (s .decided) (omega arith) z)
+      go (inr (inl e)) = e
+      go (inr (inr l)) =
+          absurd (St .decided last l (mark last ∙ getD-set-same p last 0 0 (omega (arith, St .bound, St .long, ap length (reopened-set p), length-set p last 0))))
+
+  same-mark : (r : ℕ) → r ≢ s .decided → getD p r 0 ≡ getD (reopened p) r 0
+  same-mark r o = sym (ap (λ (x : Position). getD x r 0) next-last ∙ getD-set-other p (s .decided) r 0 0 o)
+
+  -- it is decided as p has it, or p is open from there on
+  pub last-decides : Decides (s .decided) (getD p (s .decided) 0) (reopened p) p
+  last-decides =
+      record {
+        same-length = sym (ap length next-last ∙ length-set p (s .decided) 0);
+        before = λ r l. same-mark r (λ z. omega arith);
+        there = refl;
+        then-open = λ r l. same-mark r (λ z. omega arith) ∙ St .still-open r (omega arith);
+      }
+
+  pub open-stands : getD p (s .decided) 0 ≡ 0 → Stands G p w s
+  open-stands z = subst (λ (q : Position). Stands G q w s) (next-last ∙ ap (set p (s .decided)) (sym z) ∙ set-getD p (s .decided) 0) St
 
 -- no byte is over the bound
 pub bytes-most : (m : ℕ) (p : Position) → over m p ≡ false → (r : ℕ) → r < length p → getD p r 0 ≤ m

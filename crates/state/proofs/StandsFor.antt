@@ -7,23 +7,23 @@ use mathlib.Core.List.{List}
 use mathlib.Core.Logic.{⊎-elim}
 use native.Mathlib.Omega.{arith}
 use lib.ListN.{length, getD}
-use lib.Dec.{leb, eqb}
+use lib.Dec.{eqb}
 use borrow.Author.Tests.{eq-eqb, ne-eqb}
 use Rattle.model.specs.Graph.{Graph, degree, vertexAt}
-use Rattle.model.specs.Groups.{Factor}
+use Rattle.model.specs.Groups.{Settings, within}
 use Rattle.model.specs.Walk.{Position, has, finished}
-use Rattle.model.specs.Listing.{is, adjacent, pivot, apart, leftNeighbours, dead, takenList}
+use Rattle.model.specs.Listing.{is, adjacent, pivot, apart, leftNeighbours, dead, takenList, rules}
 use Rattle.theory.proofs.basics.Tests.{lt-or-ge, count-same}
-use Rattle.theory.proofs.basics.Parts.{part-length, part-at}
+use Rattle.theory.proofs.basics.Parts.{part-length, part-at, part-front}
+use Rattle.theory.specs.Parts.{part}
 use Rattle.theory.proofs.basics.Passing.{map-at}
 use Rattle.theory.proofs.basics.PassingParts.{passing-count}
-use Rattle.theory.proofs.graph.Factor.{at-least}
 use Rattle.theory.proofs.graph.Ranks.{vertex-at}
 use Rattle.theory.proofs.walk.Moves.{has-found, has-none, finished-is}
 use Rattle.graph.specs.Table.{graphOf}
 use Rattle.graph.proofs.Table.{table-size, table-degree}
 use Rattle.ranks.specs.Ranks.{HoldsRanks}
-use Rattle.state.specs.State.{takenRanks, leftOfPivot, leftRanks, Stands, StandsForOne}
+use Rattle.state.specs.State.{takenRanks, leftOfPivot, leftRanks, Stands, StandsForOne, Copied}
 use Rattle.state.specs.declared.State.{State}
 use Rattle.state.proofs.Taken.{taken-list, taken-length, taken-at, taken-has, untaken-has, pivot-first, apart-none, degrees-bound}
 
@@ -76,6 +76,36 @@ module _ {G : Graph} {p : Position} {w : List ℕ} {s : State} (St : Stands G p 
       let z : G .size + 0 ≡ G .size = omega arith in
       ap (λ (i : ℕ). getD w i 0) (sym z) ∙ vertex-of-rank 0 h ∙ ap (vertexAt G) (pivot-first G p (omega arith) .2)
 
+  -- it stands with each work slice that has the same in its three parts
+  pub stands-same : {u : List ℕ} → 8 * G .size ≤ length u → part u 0 (s .taken) ≡ part w 0 (s .taken) → part u (G .size) (s .taken) ≡ part w (G .size) (s .taken)
+      → part u (2 * G .size) (s .left) ≡ part w (2 * G .size) (s .left) → Stands G p u s
+  stands-same room ranks vertices left =
+      record {
+        long = St .long;
+        room = room;
+        bound = St .bound;
+        taken-bound = St .taken-bound;
+        left-bound = St .left-bound;
+        bytes = St .bytes;
+        decided = St .decided;
+        still-open = St .still-open;
+        ranks = ranks ∙ St .ranks;
+        vertices = vertices ∙ St .vertices;
+        left = left ∙ St .left;
+        sum = St .sum;
+        apart = St .apart;
+      }
+
+  -- and so with one into which the parts were copied
+  pub stands-copied : {b u : List ℕ} → Copied (3 * G .size) w b u → 8 * G .size ≤ length b → Stands G p u s
+  stands-copied {b} {u} c h =
+      let long = c .length-kept in
+      let taken = St .taken-bound in
+      let left = St .left-bound in
+      let bound = St .bound in
+      let same = part-front (3 * G .size) u w (c .front) (omega arith) (let r = St .room in omega arith) in
+      stands-same (omega arith) (same 0 (s .taken) (omega arith)) (same (G .size) (s .taken) (omega arith)) (same (2 * G .size) (s .left) (omega arith))
+
   -- ---- what is taken, and what is open
 
   pub none-taken : s .taken ≡ 0 → length (takenRanks G p) ≡ 0
@@ -119,21 +149,20 @@ module _ {G : Graph} {p : Position} {w : List ℕ} {s : State} (St : Stands G p 
       ∙ sym (passing-count (G .size) (leftOfPivot G p))
       ∙ left-count G p w s St
 
-  pub dead-apart : (c : Factor) → s .apart ≡ true → dead G c p ≡ true
+  -- Document 01, "The walk": two taken ranks are not adjacent
+  pub dead-apart : (q : Settings) → s .apart ≡ true → rules G q .dead p ≡ true
   unfolding dead
-  dead-apart c e = rw (sym (St .apart) ∙ e)
+  dead-apart q e = rw (sym (St .apart) ∙ e)
 
-  pub dead-untaken : (c : Factor) → s .taken ≡ 0 → dead G c p ≡ s .apart
+  -- nothing is taken
+  pub untaken-live : (q : Settings) → s .taken ≡ 0 → rules G q .dead p ≡ false
   unfolding dead
-  dead-untaken c e = rw (has-none-taken e, St .apart) (or-false (apart G p))
-
-  pub untaken-live : (c : Factor) → s .taken ≡ 0 → dead G c p ≡ false
-  untaken-live c e = dead-untaken c e ∙ St .apart ∙ apart-none G p (none-taken e)
+  untaken-live q e = rw (has-none-taken e) (or-false (apart G p) ∙ apart-none G p (none-taken e))
 
   -- Document 01, "The walk": at least c neighbours of the pivot are left
-  pub dead-by-left : (c : Factor) → 0 < s .taken → s .apart ≡ false → dead G c p ≡ leb c (s .left)
+  pub dead-by-left : (q : Settings) → 0 < s .taken → s .apart ≡ false → rules G q .dead p ≡ not (within (q .factor) 1 (s .left))
   unfolding dead
-  dead-by-left c h e = rw (sym (St .apart) ∙ e, has-taken h, left-is h) (sym (at-least c (s .left)))
+  dead-by-left q h e = rw (sym (St .apart) ∙ e, has-taken h, left-is h)
 
 -- ---- the same for the graph of a table
 

@@ -5,13 +5,14 @@ use mathlib.Core.Path.{_≡_}
 use mathlib.Core.Bool.{Bool, _&&_}
 use mathlib.Core.Logic.{_≢_}
 use mathlib.Core.List.{List, [], _∷_}
-use lib.ListN.{length, getD}
+use lib.ListN.{length, getD, take}
 use Rattle.model.specs.Below.{passing}
 use Rattle.model.specs.Graph.{Graph, degree}
-use Rattle.model.specs.Groups.{Factor}
 use Rattle.theory.specs.Parts.{part}
 use Rattle.model.specs.Walk.{Position, has, finished}
-use Rattle.model.specs.Listing.{is, adjacent, pivot, apart, dead, takenList}
+use Rattle.model.specs.Listing.{is, adjacent, pivot, apart, takenList, rules}
+use Rattle.isolation.specs.declared.Settings.{Settings}
+use Rattle.isolation.specs.Numbers.{settingsOf}
 use Rattle.state.specs.declared.State.{State}
 
 -- the taken ranks, lowest first
@@ -48,6 +49,11 @@ pub record Stands (G : Graph) (p : Position) (w : List ℕ) (s : State) : Type 0
   pub sum : s .sum ≡ degreesOf G (takenList G p)
   pub apart : s .apart ≡ apart G p
 
+-- the first k entries are those of another slice, and the length stays
+pub record Copied (k : ℕ) (from before after : List ℕ) : Type 0 where
+  pub front : take k after ≡ take k from
+  pub length-kept : length after ≡ length before
+
 -- the state and the work slice stand for some position
 abbrev pub StandsForOne : Graph → List ℕ → State → Type 0
 StandsForOne G w s = (p : Position) × Stands G p w s
@@ -56,6 +62,6 @@ StandsForOne G w s = (p : Position) × Stands G p w s
 abbrev pub SaysFinished : ℕ → State → Bool → Type 0
 SaysFinished n s b = (G : Graph) (p : Position) (w : List ℕ) → G .size ≡ n → Stands G p w s → b ≡ finished p
 
--- what `is_dead` says of every position for which the state stands
-abbrev pub SaysDead : Factor → State → Bool → Type 0
-SaysDead c s b = (G : Graph) (p : Position) (w : List ℕ) → Stands G p w s → b ≡ dead G c p
+-- what `is_dead` says of every position for which the state and the work slice stand: whether the rules of the settings have it dead
+abbrev pub SaysDead : Settings → List ℕ → State → Bool → Type 0
+SaysDead q w s b = (G : Graph) (p : Position) → Stands G p w s → b ≡ rules G (settingsOf q) .dead p

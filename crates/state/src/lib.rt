@@ -2,16 +2,20 @@
 // rank that is decided, and at nothing else of the position.
 ghost use mathlib.Core.Path.{_≡_};
 ghost use mathlib.Core.Bool.{false, _||_, not};
-ghost use Prim.Native.Nat.{_+_, _*_, _≤_, _<_};
+ghost use Prim.Native.Nat.{_+_, _-_, _*_, _≤_, _<_};
 ghost use lib.ListN.{length, getD};
-ghost use Rattle.model.specs.Below.{any};
-ghost use Rattle.model.specs.Calls.{over, gap};
+ghost use Rattle.model.specs.Below.{any, least};
+ghost use Rattle.model.specs.Listing.{is};
+ghost use Rattle.model.specs.Calls.{over, gap, reopened};
 ghost use Rattle.graph.specs.Table.{graphOf};
 ghost use Rattle.ranks.specs.Ranks.{HoldsRanks};
-ghost use Rattle.state.specs.State.{Stands, StandsForOne, SaysFinished, SaysDead};
+ghost use Rattle.isolation.specs.Numbers.{FactorFits};
+ghost use Rattle.state.specs.State.{Stands, StandsForOne, SaysFinished, SaysDead, Copied};
 ghost use Rattle.state.specs.NextRank.{Pushed, Misses, LeftOnceTaken};
 use graph::entry_at;
 use graph::joined;
+use isolation::Settings;
+use isolation::within;
 
 // What a page keeps beside the position and the work slice: how many ranks are decided, how many of them are taken, how many neighbours of the
 // pivot are left, the sum of the taken vertices' degrees, and whether two taken ranks are not adjacent.
@@ -47,8 +51,9 @@ pub fn finished(s: State, n: usize) -> bool
 
 // Whether the position is dead. Document 01, "The walk": two taken ranks are not adjacent, or something is taken and at least c neighbours of the
 // pivot are left. The pivot has the least outside count of a clique, so then no notion of document 002, section 2.1, can hold.
-pub fn is_dead(s: State, c: usize) -> bool
-    ensures { λ r. ⌜ SaysDead c s r ⌝ }
+pub fn is_dead(s: State, q: Settings, work: &[u16]) -> bool
+    requires { ⌜ FactorFits q ⌝ }
+    ensures { λ r. ⌜ SaysDead q (now (work .entry)) s r ⌝ }
 {
     let apart = s.apart;
     let k = s.taken;
@@ -59,7 +64,7 @@ pub fn is_dead(s: State, c: usize) -> bool
     if k == 0 {
         return false;
     }
-    c <= m
+    !within(q, 1, m)
 }
 
 // Whether some of the first k vertices of part 1 is not joined to v. Reads them from the last, up to one that is not.
@@ -176,10 +181,18 @@ fn push(s: State, mark: u8, table: &[u8], ranks: &[u16], n: usize, work: &mut [u
     push_left(s, table, ranks, n, work)
 }
 
-// The state of a position that passes refusals 21 and 22. Goes once through its decided ranks.
-pub fn rebuild(table: &[u8], ranks: &[u16], n: usize, position: &[u8], work: &mut [u16]) -> State
-    requires { ⌜ HoldsRanks n (now table) (now ranks) × (length (now position) ≡ n) × (8 * n ≤ length (now work)) × (over 2 (now position) ≡ false) × (gap (now position) ≡ false) ⌝ }
-    ensures { λ r. ⌜ Stands (graphOf n (now (table .entry))) (now (position .entry)) (now (work .exit)) r ⌝ }
+// The state of a position that passes refusals 21 and 22, with its last decided rank opened; `upto` is that rank, and 0 where all are open. Goes once
+// through the ranks below it, and writes the work slice alone.
+pub fn rebuild(
+    table: &[u8],
+    ranks: &[u16],
+    n: usize,
+    position: &[u8],
+    upto: usize,
+    work: &mut [u16],
+) -> State
+    requires { ⌜ HoldsRanks n (now table) (now ranks) × (length (now position) ≡ n) × (8 * n ≤ length (now work)) × (over 2 (now position) ≡ false) × (gap (now position) ≡ false) × (upto ≡ least (length (now position)) (is 0 (now position)) - 1) ⌝ }
+    ensures { λ r. ⌜ Stands (graphOf n (now (table .entry))) (reopened (now (position .entry))) (now (work .exit)) r ⌝ }
 {
     let mut s = State {
         decided: 0,
@@ -188,13 +201,48 @@ pub fn rebuild(table: &[u8], ranks: &[u16], n: usize, position: &[u8], work: &mu
         sum: 0,
         apart: false,
     };
-    while s.decided < n {
+    while s.decided < upto {
         let d = s.decided;
         let mark = position[d];
-        if mark == 0 {
-            return s;
-        }
         s = push(s, mark, table, ranks, n, work);
     }
     s
+}
+
+// The first k entries of `to` become those of `from`.
+fn copy(from: &[u16], to: &mut [u16], k: usize)
+    requires { ⌜ (k ≤ length (now from)) × (k ≤ length (now to)) ⌝ }
+    ensures { λ _. ⌜ Copied k (now (from .entry)) (now (to .entry)) (now (to .exit)) ⌝ }
+{
+    let mut i = 0;
+    while i < k {
+        to[i] = from[i];
+        i += 1;
+    }
+}
+
+// The state of a position, from the state that stands for it with its last decided rank opened: its three parts go from `memory` into the work slice,
+// and that rank, which comes next, is decided as the position has it. A fresh position has none.
+pub fn go_on(
+    s: State,
+    table: &[u8],
+    ranks: &[u16],
+    n: usize,
+    position: &[u8],
+    memory: &[u16],
+    work: &mut [u16],
+) -> State
+    requires { ⌜ HoldsRanks n (now table) (now ranks) × Stands (graphOf n (now table)) (reopened (now position)) (now memory) s × (8 * n ≤ length (now work)) × (over 2 (now position) ≡ false) ⌝ }
+    ensures { λ r. ⌜ Stands (graphOf n (now (table .entry))) (now (position .entry)) (now (work .exit)) r ⌝ }
+{
+    let d = s.decided;
+    copy(memory, work, 3 * n);
+    if d == n {
+        return s;
+    }
+    let mark = position[d];
+    if mark == 0 {
+        return s;
+    }
+    push(s, mark, table, ranks, n, work)
 }

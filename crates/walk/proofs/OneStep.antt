@@ -8,9 +8,9 @@ use mathlib.Core.Logic.{_≢_}
 use native.Mathlib.Omega.{arith}
 use borrow.Author.Tests.{eq-eqb}
 use Rattle.model.specs.Graph.{Graph}
-use Rattle.model.specs.Groups.{Factor}
+use Rattle.model.specs.Groups.{Settings}
 use Rattle.model.specs.Walk.{Position, has, finished, advance, retreat, step}
-use Rattle.model.specs.Listing.{apart, dead}
+use Rattle.model.specs.Listing.{apart, dead, rules}
 use Rattle.model.specs.Calls.{reopened, refusePosition}
 use Rattle.theory.proofs.walk.Walk.{step-down, step-up}
 use Rattle.theory.proofs.basics.Refusals.{refuse-pass}
@@ -19,11 +19,11 @@ use Rattle.theory.proofs.walk.Moves.{step-accepted}
 use Rattle.graph.specs.Table.{graphOf}
 use Rattle.graph.proofs.Table.{table-size}
 use Rattle.state.specs.State.{Stands}
-use Rattle.walk.specs.Walk.{rulesAt, Walking, Moved, Stepped}
+use Rattle.walk.specs.Walk.{Walking, Moved, Stepped}
 use Rattle.state.specs.declared.State.{State}
 use Rattle.state.proofs.StandsFor.{some-open, no-open, finished-decided, untaken-live}
 
-module _ {n : ℕ} {c : Factor} {t ranks : List ℕ} {p : Position} {w : List ℕ} {s : State} (W : Walking n c t ranks p w s) where
+module _ {n : ℕ} {q : Settings} {t ranks : List ℕ} {p : Position} {w : List ℕ} {s : State} (W : Walking n q t ranks p w s) where
   abbrev G : Graph
   G = graphOf n t
 
@@ -37,35 +37,35 @@ module _ {n : ℕ} {c : Factor} {t ranks : List ℕ} {p : Position} {w : List �
       first false b e = refl
 
   -- something is taken where the position is dead, or decided and not finished
-  pub dead-taken : dead G c p ≡ true → 0 < s .taken
-  dead-taken e = let some : s .taken ≢ 0 = λ z. true≢false (sym e ∙ untaken-live (W .stands) c z) in omega arith
+  pub dead-taken : rules G q .dead p ≡ true → 0 < s .taken
+  dead-taken e = let some : s .taken ≢ 0 = λ z. true≢false (sym e ∙ untaken-live (W .stands) q z) in omega arith
 
   pub decided-taken : finished p ≡ false → n ≤ s .decided → 0 < s .taken
   decided-taken e h =
       let some : s .taken ≢ 0 = λ z. true≢false (sym (eq-eqb (s .taken) 0 z) ∙ sym (finished-decided (W .stands) (omega (arith, table-size n t))) ∙ e) in
       omega arith
 
-  to-step : {q x : Position} {w₂ : List ℕ} {s₂ : State} → step (rulesAt G c) p ≡ q → Moved G q x w₂ s₂ → Stepped G c p x w₂ s₂
-  to-step {q} {x} {w₂} {s₂} e M =
+  to-step : {y x : Position} {w₂ : List ℕ} {s₂ : State} → step (rules G q) p ≡ y → Moved G y x w₂ s₂ → Stepped G q p x w₂ s₂
+  to-step {y} {x} {w₂} {s₂} e M =
       record {
         position = M .position ∙ sym e;
-        stands = subst⁻¹ (λ (y : Position). Stands G y w₂ s₂) e (M .stands);
+        stands = subst⁻¹ (λ (z : Position). Stands G z w₂ s₂) e (M .stands);
         passes =
-            step-accepted (rulesAt G c) n (lawful G (W .simple .loopless) (record { notion = 0; kind = 0; factor = c })) p
+            step-accepted (rules G q) n (lawful G (W .simple .loopless) q) p
             (W .stands .long ∙ table-size n t) (W .passes);
       }
 
   -- a live position with an open rank
-  pub stepped-down : {x : Position} {w₂ : List ℕ} {s₂ : State} → dead G c p ≡ false → s .decided < n → Moved G (advance p) x w₂ s₂ → Stepped G c p x w₂ s₂
+  pub stepped-down : {x : Position} {w₂ : List ℕ} {s₂ : State} → rules G q .dead p ≡ false → s .decided < n → Moved G (advance p) x w₂ s₂ → Stepped G q p x w₂ s₂
   stepped-down live h =
-      to-step (step-down (rulesAt G c) p (ap₂ (λ (a b : Bool). not a && b) live (some-open (W .stands) (omega (arith, table-size n t)))))
+      to-step (step-down (rules G q) p (ap₂ (λ (a b : Bool). not a && b) live (some-open (W .stands) (omega (arith, table-size n t)))))
 
   -- a dead position, or one with all ranks decided
-  pub stepped-dead : {x : Position} {w₂ : List ℕ} {s₂ : State} → dead G c p ≡ true → Moved G (retreat p) x w₂ s₂ → Stepped G c p x w₂ s₂
-  stepped-dead e = to-step (step-up (rulesAt G c) p (ap (λ (a : Bool). not a && has 0 p) e))
+  pub stepped-dead : {x : Position} {w₂ : List ℕ} {s₂ : State} → rules G q .dead p ≡ true → Moved G (retreat p) x w₂ s₂ → Stepped G q p x w₂ s₂
+  stepped-dead e = to-step (step-up (rules G q) p (ap (λ (a : Bool). not a && has 0 p) e))
 
-  pub stepped-decided : {x : Position} {w₂ : List ℕ} {s₂ : State} → n ≤ s .decided → Moved G (retreat p) x w₂ s₂ → Stepped G c p x w₂ s₂
+  pub stepped-decided : {x : Position} {w₂ : List ℕ} {s₂ : State} → n ≤ s .decided → Moved G (retreat p) x w₂ s₂ → Stepped G q p x w₂ s₂
   stepped-decided h =
       to-step
-      (step-up (rulesAt G c) p
-      (ap (λ (b : Bool). not (dead G c p) && b) (no-open (W .stands) (omega (arith, table-size n t))) ∙ and-false (not (dead G c p))))
+      (step-up (rules G q) p
+      (ap (λ (b : Bool). not (rules G q .dead p) && b) (no-open (W .stands) (omega (arith, table-size n t))) ∙ and-false (not (rules G q .dead p))))

@@ -5,9 +5,9 @@ use mathlib.Core.Path.{_≡_}
 use mathlib.Core.List.{List}
 use lib.ListN.{getD}
 use Rattle.model.specs.Graph.{Graph}
-use Rattle.model.specs.Groups.{Factor, settings}
+use Rattle.model.specs.Groups.{Settings}
 use Rattle.model.specs.Meaning.{Simple}
-use Rattle.model.specs.Walk.{Position, Rules, step}
+use Rattle.model.specs.Walk.{Position, step}
 use Rattle.model.specs.Listing.{rules}
 use Rattle.model.specs.Calls.{refusePosition}
 use Rattle.graph.specs.Table.{graphOf}
@@ -15,13 +15,9 @@ use Rattle.ranks.specs.Ranks.{HoldsRanks}
 use Rattle.state.specs.State.{Stands}
 use Rattle.state.specs.declared.State.{State}
 
--- the rules of a graph at a factor. Document 01, "The walk": dead doesn't depend on notion or kind, so any serve
-abbrev pub rulesAt : Graph → Factor → Rules
-rulesAt G c = rules G (settings 0 0 c)
-
 -- the position passes refusals 21 to 23
-abbrev pub Passes : Graph → Factor → Position → Type 0
-Passes G c p = refusePosition (rulesAt G c) p ≡ 0
+abbrev pub Passes : Graph → Settings → Position → Type 0
+Passes G q p = refusePosition (rules G q) p ≡ 0
 
 -- Of the first m entries of part 2 some are kept, where k ranks stay taken: none where k is 0; else the others, the last ones, are r or more, and
 -- the last one kept is less.
@@ -38,14 +34,14 @@ pub record Moved (G : Graph) (q p₂ : Position) (w₂ : List ℕ) (s₂ : State
 
 -- What a step goes by: the table of a graph of document 01, its rank order and degrees, and the state and the work slice for a position that passes
 -- refusals 21 to 23.
-pub record Walking (n : ℕ) (c : Factor) (t ranks : List ℕ) (p : Position) (w : List ℕ) (s : State) : Type 0 where
+pub record Walking (n : ℕ) (q : Settings) (t ranks : List ℕ) (p : Position) (w : List ℕ) (s : State) : Type 0 where
   pub simple : Simple (graphOf n t)
   pub ranked : HoldsRanks n t ranks
   pub stands : Stands (graphOf n t) p w s
-  pub passes : Passes (graphOf n t) c p
+  pub passes : Passes (graphOf n t) q p
 
 -- the same after a step, with a position that passes refusals 21 to 23 again
-pub record Stepped (G : Graph) (c : Factor) (p p₂ : Position) (w₂ : List ℕ) (s₂ : State) : Type 0 where
-  pub position : p₂ ≡ step (rulesAt G c) p
-  pub stands : Stands G (step (rulesAt G c) p) w₂ s₂
-  pub passes : Passes G c (step (rulesAt G c) p)
+pub record Stepped (G : Graph) (q : Settings) (p p₂ : Position) (w₂ : List ℕ) (s₂ : State) : Type 0 where
+  pub position : p₂ ≡ step (rules G q) p
+  pub stands : Stands G (step (rules G q) p) w₂ s₂
+  pub passes : Passes G q (step (rules G q) p)

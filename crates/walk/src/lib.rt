@@ -9,10 +9,12 @@ ghost use Rattle.model.specs.Listing.{apart};
 ghost use Rattle.model.specs.Calls.{reopened};
 ghost use Rattle.graph.specs.Table.{graphOf};
 ghost use Rattle.ranks.specs.Ranks.{HoldsRanks};
+ghost use Rattle.isolation.specs.Numbers.{settingsOf, FactorFits};
 ghost use Rattle.state.specs.State.{Stands};
 ghost use Rattle.state.specs.NextRank.{RanksOpened};
 ghost use Rattle.walk.specs.Walk.{Trimmed, Moved, Walking, Stepped};
 use graph::entry_at;
+use isolation::Settings;
 use state::State;
 use state::is_dead;
 use state::push_left;
@@ -107,16 +109,16 @@ pub fn step(
     table: &[u8],
     ranks: &[u16],
     n: usize,
-    c: usize,
+    q: Settings,
     position: &mut [u8],
     work: &mut [u16],
 ) -> State
-    requires { ⌜ Walking n c (now table) (now ranks) (now position) (now work) s ⌝ }
-    requires { ⌜ finished (now position) ≡ false ⌝ }
-    ensures { λ r. ⌜ Stepped (graphOf n (now (table .entry))) c (now (position .entry)) (now (position .exit)) (now (work .exit)) r ⌝ }
+    requires { ⌜ Walking n (settingsOf q) (now table) (now ranks) (now position) (now work) s ⌝ }
+    requires { ⌜ FactorFits q × (finished (now position) ≡ false) ⌝ }
+    ensures { λ r. ⌜ Stepped (graphOf n (now (table .entry))) (settingsOf q) (now (position .entry)) (now (position .exit)) (now (work .exit)) r ⌝ }
 {
     let d = s.decided;
-    if is_dead(s, c) {
+    if is_dead(s, q, work) {
         return back(s, table, ranks, n, position, work);
     }
     if d < n {

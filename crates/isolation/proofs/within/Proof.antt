@@ -1,16 +1,20 @@
 -- `isolation::within` meets its contract.
 -- Assumes nothing.
 use native.Mathlib.Omega.{arith}
+use Rattle.model.specs.Groups.{within}
+use Rattle.isolation.specs.Numbers.{FactorFits}
 use Rattle.isolation.proofs.Notions.{product-small}
 use borrow.Author.Needs.{needs}
 use Rattle.isolation.proofs.within.Statement.{statement}
 use Rattle.isolation.proofs.within.Tie as tie
 
 mul-bound : tie.Need-mul-bound
-mul-bound c = omega (arith, product-small (c .args .c) (c .args .k) (c .pre .0) (c .pre .1))
+unfolding FactorFits
+mul-bound c = let b = c .before in omega (arith, product-small (b .args .s .factor) (b .args .k) (b .pre .factor) (b .pre .members))
 
 returns : tie.Need-returns
+unfolding within
 returns c = search needs
 
 pub within-spec : {M : Type 1} → statement M
-within-spec = tie.close (tie.spec mul-bound returns)
+within-spec = tie.close (tie.spec (λ c. search needs) mul-bound returns)

@@ -11,18 +11,15 @@ use Rattle.rounds.proofs.run.Statement.{statement}
 use Rattle.rounds.proofs.run.Tie as tie
 
 abbrev Inv-loop : tie.InvT-loop
-Inv-loop table ranks position₀ output₀ work₀ n q budget c s₀ steps₀ groups₀ used₀ wanted₀ position output work s steps groups used wanted =
+Inv-loop table ranks position₀ output₀ work₀ n q budget s₀ steps₀ groups₀ used₀ wanted₀ position output work s steps groups used wanted =
     Running n table ranks q budget position₀ output₀ work₀ position output work s steps groups used wanted
 
 abbrev μ-loop : tie.MeasureT-loop
-μ-loop table ranks position₀ output₀ work₀ n q budget c s₀ steps₀ groups₀ used₀ wanted₀ position output work s steps groups used wanted =
+μ-loop table ranks position₀ output₀ work₀ n q budget s₀ steps₀ groups₀ used₀ wanted₀ position output work s steps groups used wanted =
     budget - steps
 
-cast-c : tie.Need-cast-c Inv-loop μ-loop
-cast-c c = omega (arith, c .before .before .before .before .before .before .pre .1)
-
 loop-holds : tie.Need-loop-holds Inv-loop μ-loop
-loop-holds c = let p = c .before .before .before .before .before .before .pre in running-start (p .0) (p .1)
+loop-holds c = let p = c .before .before .before .before .before .pre in running-start (p .0) (p .1)
 
 emit-requires : tie.Need-emit-requires Inv-loop μ-loop
 emit-requires c κs = asks (c .before .before .before .before .before .loop .inv)
@@ -33,20 +30,20 @@ add-groups c =
     let b = e .before .before .before in
     let r = b .before .before .before in
     let g = groups-within (r .loop .inv) (e .emit .ensures) (b .before .before .finished .ensures) (b .before .if1 .left) (λ z. omega (arith, b .if2 .left)) (c .before .if3 .left) in
-    omega (arith, r .before .before .before .before .before .before .before .fits .budget)
+    omega (arith, r .before .before .before .before .before .before .fits .budget)
 
 step-requires : tie.Need-step-requires Inv-loop μ-loop
 step-requires c κs =
     let e = c .before .before .before .before .before .before .before .before in
     let b = e .before .before .before in
     let r = b .before .before .before .loop .inv in
-    (still-walking r (e .emit .ensures), says r (b .before .before .finished .ensures) ∙ b .before .if1 .left)
+    (still-walking r (e .emit .ensures), (r .factor, says r (b .before .before .finished .ensures) ∙ b .before .if1 .left))
 
 add-steps : tie.Need-add-steps Inv-loop μ-loop
 add-steps c =
     let b = c .before .before .before .before .before .before .before .before .before .before .before .before .before .before .before .before in
     let m = more (b .before .before .before .loop .inv) (λ z. omega (arith, b .if2 .left)) in
-    omega (arith, b .before .before .before .before .before .before .before .before .before .before .fits .budget)
+    omega (arith, b .before .before .before .before .before .before .before .before .before .fits .budget)
 
 loop-less : tie.Need-loop-less Inv-loop μ-loop
 loop-less c =
@@ -92,5 +89,5 @@ returns c =
 pub run-spec : {M : Type 1} → statement M
 run-spec =
     tie.close
-    (tie.spec Inv-loop μ-loop cast-c loop-holds (λ c κs. tt) emit-requires add-groups step-requires add-steps loop-less loop-again (λ c κs. tt) same-length
+    (tie.spec Inv-loop μ-loop loop-holds (λ c κs. tt) emit-requires add-groups step-requires add-steps loop-less loop-again (λ c κs. tt) same-length
     same-length-2 same-length-3 returns)

@@ -6,7 +6,7 @@ use mathlib.Core.List.{List, [], _∷_, _++_}
 use native.Mathlib.Numerals.{add-one}
 use native.Mathlib.Omega.{arith}
 use lib.ListN.{length, getD, take, drop, set, length-take, length-drop, length-set}
-use lib.Seq.{drop-set-add, drop-set-lt, take-set-le, take-suc-set, getD-take, getD-drop, getD-set-other, ext-getD, take-take, take-at}
+use lib.Seq.{drop-set-add, drop-set-lt, take-set-le, take-suc-set, getD-take, getD-drop, getD-set-other, ext-getD, take-take, take-at, take-add, drop-at, length-take-le}
 use mathlib.Core.Logic.{_⊎_, ⊎-elim}
 use Rattle.theory.specs.Parts.{part, SamePart, StateKept, Kept, Filled, CandidatesIn}
 
@@ -27,6 +27,14 @@ part-same w w₀ a k e f = ext-getD 0 (part w a k) (part w₀ a k) (size w ∙ a
     at i h =
         let l : i < k = let s = size w in omega arith in
         part-at w a k i l ∙ f i l ∙ sym (part-at w₀ a k i l)
+
+-- two slices whose first entries agree have one part there, whatever their lengths
+pub part-front : (k : ℕ) (u w : List ℕ) → take k u ≡ take k w → k ≤ length u → k ≤ length w → (a m : ℕ) → a + m ≤ k → part u a m ≡ part w a m
+part-front k u w e hu hw a m h =
+    cut u (omega arith) ∙ ap (drop a) (sym (take-take (a + m) k u h) ∙ ap (take (a + m)) e ∙ take-take (a + m) k w h) ∙ sym (cut w (omega arith))
+  where
+    cut : (v : List ℕ) → a ≤ length v → part v a m ≡ drop a (take (a + m) v)
+    cut v l = sym (ap (drop a) (take-add a m v) ∙ drop-at (take a v) (part v a m) a (length-take-le a v l))
 
 -- a store right after the part makes it longer by one
 pub part-push : (w : List ℕ) (a k v : ℕ) → a + k < length w → part (set w (a + k) v) a (k + 1) ≡ part w a k ++ (v ∷ [])

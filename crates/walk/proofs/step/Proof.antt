@@ -9,32 +9,34 @@ use Rattle.walk.proofs.step.Tie as tie
 
 back-requires : tie.Need-back-requires
 back-requires c κs =
-    let W = c .before .before .before .before .before .before .before .before .pre .0 in
-    let e = sym (c .before .before .before .is-dead .ensures _ _ _ (W .stands)) ∙ c .before .before .if1 .taken in
-    (W .ranked, W .stands, dead-taken W e, passes-calm W)
+    let d = c .before .before .before in
+    let W = d .before .before .before .before .before .before .pre .0 in
+    (W .ranked, W .stands, dead-taken W (sym (d .is-dead .ensures _ _ (W .stands)) ∙ c .before .before .if1 .taken), passes-calm W)
 
 returns : tie.Need-returns
 returns c =
-    let W = c .before .before .before .before .before .before .before .before .before .before .before .before .before .pre .0 in
-    let e = sym (c .before .before .before .before .before .before .before .before .is-dead .ensures _ _ _ (W .stands)) ∙ c .before .before .before .before .before .before .before .if1 .taken in
-    stepped-dead W e (c .before .before .before .before .back .ensures)
+    let b = c .before .before .before .before in
+    let d = b .before .before .before .before in
+    let W = d .before .before .before .before .before .before .pre .0 in
+    stepped-dead W (sym (d .is-dead .ensures _ _ (W .stands)) ∙ b .before .before .before .if1 .taken) (b .back .ensures)
 
 returns-2 : tie.Need-returns-2
 returns-2 c =
-    let W = c .before .before .before .before .before .before .before .before .before .before .before .before .before .before .pre .0 in
-    let e = sym (c .before .before .before .before .before .before .before .before .before .is-dead .ensures _ _ _ (W .stands)) ∙ c .before .before .before .before .before .before .before .before .if1 .left in
-    stepped-down W e (omega arith) (c .before .before .before .before .take .ensures)
+    let t = c .before .before .before .before in
+    let d = t .before .before .before .before .before in
+    let W = d .before .before .before .before .before .before .pre .0 in
+    stepped-down W (sym (d .is-dead .ensures _ _ (W .stands)) ∙ t .before .before .before .before .if1 .left) (omega arith) (t .take .ensures)
 
 back-requires-2 : tie.Need-back-requires-2
 back-requires-2 c κs =
-    let b = c .before .before .before .before .before .before .before .before .before in
+    let b = c .before .before .before .before .before .before .before .before .before .before in
     let W = b .pre .0 in
-    (W .ranked, W .stands, decided-taken W (b .pre .1) (omega arith), passes-calm W)
+    (W .ranked, W .stands, decided-taken W (b .pre .1 .1) (omega arith), passes-calm W)
 
 returns-3 : tie.Need-returns-3
 returns-3 c =
-    let W = c .before .before .before .before .before .before .before .before .before .before .before .before .before .before .pre .0 in
-    stepped-decided W (omega arith) (c .before .before .before .before .back2 .ensures)
+    let b = c .before .before .before .before in
+    stepped-decided (b .before .before .before .before .before .before .before .before .before .before .before .pre .0) (omega arith) (b .back2 .ensures)
 
 pub step-spec : {M : Type 1} → statement M
 step-spec =
