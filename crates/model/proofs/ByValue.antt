@@ -23,6 +23,7 @@ pinned x =
       budget-fresh = refl;
       budget-finished = refl;
       refused = refl;
+      lowest = (refl, refl);
       factor = (refl, refl);
       K11 = refl;
       K11-pair = refl;

@@ -3,12 +3,13 @@
 -- Assumes nothing.
 use Prim.Native.Nat.{ℕ, zero, suc, _≤_, _<_}
 use mathlib.Core.Path.{_≡_}
-use mathlib.Core.Bool.{true, false}
+use mathlib.Core.Bool.{true}
 use mathlib.Core.Logic.{_↔_}
 use mathlib.Core.List.{List, [], _∷_, List·Memᴰ}
 use lib.ListN.{length}
 use Rattle.model.specs.Graph.{Graph}
 use Rattle.model.specs.Groups.{Settings}
+use Rattle.model.specs.Meaning.{Loopless}
 use Rattle.model.specs.Walk.{Position, Rules, fresh, step, after, lasts, groupsOf, fullSets}
 use Rattle.model.specs.Listing.{rules}
 use Rattle.model.specs.Calls.{refusePosition}
@@ -53,4 +54,4 @@ pub record GraphWalk (G : Graph) (s : Settings) : Type 0 where
 
 -- every graph without loops, and all settings
 abbrev pub Walks : Type 0
-Walks = (G : Graph) → ((u : ℕ) → u < G .size → G .joined u u ≡ false) → (s : Settings) → GraphWalk G s
+Walks = (G : Graph) → Loopless G → (s : Settings) → GraphWalk G s

@@ -120,6 +120,10 @@ pub record Pinned (x : ℕ) : Type 0 where
   pub refused :
       onClaw 8 (1 ∷ 1 ∷ 1 ∷ 0 ∷ []) (x ∷ [])
       ≡ record { refused = 23; stop = 0; groups = 0; used = 0; steps = 0; wanted = 0; position = 1 ∷ 1 ∷ 1 ∷ 0 ∷ []; output = x ∷ [] }
+  -- "lowest number first": a notion over 2, a work slice under 8 × n and a dead position at once, and without the first of these
+  pub lowest :
+      (refusePage (byteTable 4 clawTable) (settings 3 0 2) (1 ∷ 1 ∷ 1 ∷ 0 ∷ []) 31 ≡ 6)
+      × (refusePage (byteTable 4 clawTable) (settings 2 0 2) (1 ∷ 1 ∷ 1 ∷ 0 ∷ []) 31 ≡ 10)
   -- "c 1,024 passes, 1,025 is 8"
   pub factor : (refuseSettings (settings 2 0 1024) ≡ 0) × (refuseSettings (settings 2 0 1025) ≡ 8)
   -- K11, max, kind 0, c 3: {0} is not maximal, since the triangle is isolated, though {0, 1} isn't isolated

@@ -7,3 +7,4 @@ pub mod Acceptance
 pub mod Bounds
 pub mod Next
 pub mod Pages
+pub mod OneGraph
