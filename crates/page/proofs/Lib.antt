@@ -1,3 +1,2 @@
--- The refusals of a page call, and its ways.
-pub mod Refusals
-pub mod Call
+-- The two halves of a page call: its refusal, and the walk of an accepted one.
+pub mod Halves

@@ -1,16 +1,69 @@
 // The page call: what it is handed is tested, and then the walk goes on from the position it holds, with its groups put into the output.
 ghost use mathlib.Core.Path.{_≡_};
+ghost use lib.ListN.{length};
 ghost use Rattle.model.specs.Groups.{settings};
 ghost use Rattle.graph.specs.Table.{lent};
+ghost use Rattle.isolation.specs.Numbers.{settingsOf};
 ghost use Rattle.rounds.specs.Answer.{refused};
 ghost use Rattle.page.specs.Call.{PageCalled};
+ghost use Rattle.page.specs.Halves.{PageJudged, Accepted};
 use input::input_refusal;
 use isolation::Settings;
+use position::Opening;
 use position::position_refusal;
+use position::refused;
 use ranks::prepare;
 use rounds::PageAnswer;
 use rounds::run;
-use state::rebuild;
+use state::State;
+use state::go_on;
+
+// The refusal number of a page call with a work slice of `work` entries, and where it is 0 the state of the position with its last decided rank opened.
+// Reads the table and the position, and writes `ranks` and `memory` alone: they then hold the graph's ranks, and the state's parts.
+// Document 01, "Turned back by the state": 21 to 23 are tested after 1 to 10.
+pub fn page_refusal(
+    table: &[u8],
+    n: usize,
+    q: Settings,
+    position: &[u8],
+    work: usize,
+    ranks: &mut [u16],
+    memory: &mut [u16],
+) -> Opening
+    requires { ⌜ (length (now ranks) ≡ 2048) × (length (now memory) ≡ 8192) ⌝ }
+    ensures { λ r. ⌜ PageJudged n (now (table .entry)) q (now (position .entry)) work (now (ranks .exit)) (now (memory .exit)) r ⌝ }
+{
+    let a = input_refusal(table, n, q, position.len(), work);
+    if a != 0 {
+        return refused(a);
+    }
+    prepare(table, n, ranks);
+    position_refusal(table, ranks, n, q, position, memory)
+}
+
+// The walk of an accepted call: the state goes on from `memory` in the work slice, and then the rounds are made. Reads the table, the ranks and the memory;
+// writes the position, the output and the work slice.
+fn walk_on(
+    table: &[u8],
+    ranks: &[u16],
+    memory: &[u16],
+    position: &mut [u8],
+    output: &mut [u16],
+    work: &mut [u16],
+    n: usize,
+    q: Settings,
+    opened: State,
+    budget: u32,
+) -> PageAnswer
+    requires { ⌜ Accepted n (now table) q (now position) (length (now work)) (now ranks) (now memory) opened ⌝ }
+    ensures { λ r. ⌜
+        PageCalled (lent n (now (table .entry))) (settingsOf q) budget (now (position .entry)) (now (output .entry)) (now (work .entry))
+        r (now (position .exit)) (now (output .exit)) (now (work .exit))
+        ⌝ }
+{
+    let first = go_on(opened, table, ranks, n, position, memory, work);
+    run(table, ranks, position, output, work, n, q, first, budget)
+}
 
 // The answer of a refused call: document 01, "Turned back by the input": all other numbers in the answer are 0.
 fn turned_back(number: u32) -> PageAnswer
@@ -28,7 +81,7 @@ fn turned_back(number: u32) -> PageAnswer
 
 // The page call, of any arguments. A refused call leaves the position, the output and the work slice as they were; an accepted one walks on from the
 // position, at most as many steps as the budget has, and puts the groups that it passes into the output.
-// Document 01, "Turned back by the state": 21 to 23 are tested after 1 to 10, so the work slice is not written before all of them have passed.
+// Nothing that is lent is written before all refusals have passed.
 pub fn page(
     table: &[u8],
     position: &mut [u8],
@@ -50,16 +103,22 @@ pub fn page(
         kind,
         factor: c,
     };
-    let a = input_refusal(table, n, q, position.len(), work.len());
-    if a != 0 {
-        return turned_back(a);
-    }
     let mut ranks = [0u16; 2048];
-    prepare(table, n, &mut ranks);
-    let d = position_refusal(table, &ranks, n, c, position);
-    if d != 0 {
-        return turned_back(d);
+    let mut memory = [0u16; 8192];
+    let found = page_refusal(table, n, q, position, work.len(), &mut ranks, &mut memory);
+    if found.refusal != 0 {
+        return turned_back(found.refusal);
     }
-    let first = rebuild(table, &ranks, n, position, work);
-    run(table, &ranks, position, output, work, n, q, first, budget)
+    walk_on(
+        table,
+        &ranks,
+        &memory,
+        position,
+        output,
+        work,
+        n,
+        q,
+        found.state,
+        budget,
+    )
 }
