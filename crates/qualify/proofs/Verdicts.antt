@@ -24,13 +24,13 @@ use Rattle.isolation.specs.declared.Tally.{Tally}
 use Rattle.isolation.specs.Numbers.{settingsOf, isolatedOf, beatenOf, TallyOf}
 use Rattle.theory.specs.Parts.{part, StateKept}
 use Rattle.larger.specs.Search.{Lent, Posed, Tested}
-use Rattle.theory.proofs.basics.Parts.{part-same, state-then}
+use Rattle.theory.proofs.basics.Parts.{state-then}
 use Rattle.graph.specs.Table.{graphOf}
 use Rattle.state.specs.declared.State.{State}
 use Rattle.state.specs.State.{takenRanks, leftRanks, Stands}
 use Rattle.qualify.specs.Qualify.{joinedOf, candidatesOf, Sifts, Sifted, tallyOf, readTally, TallyFits, Asks, SaysQualifies}
 use Rattle.state.proofs.Taken.{taken-length}
-use Rattle.state.proofs.StandsFor.{taken-low, taken-count, left-count, vertex-entry, left-entry}
+use Rattle.state.proofs.StandsFor.{taken-low, taken-count, left-count, vertex-entry, left-entry, stands-kept}
 use Rattle.qualify.proofs.TakenSet.{taken-tally, taken-clique, taken-candidates, found-apart, found-untaken, found-open, found-by}
 
 -- two tests of which no number passes both pass no more than n numbers below n
@@ -59,29 +59,6 @@ ranks-fit G p =
     let one = eqb-true (getD p r 0) 1 e in
     omega arith)) in
     omega arith
-
--- the state stands for a position as long as its entries are as they were
-stands-kept : (G : Graph) (p : Position) (s : State) (w w₁ : List ℕ) → Stands G p w s → StateKept (G .size) (s .taken) w w₁ → Stands G p w₁ s
-stands-kept G p s w w₁ h kept =
-    let a = h .bound in
-    let b = h .taken-bound in
-    let c = h .left-bound in
-    let k = kept .length-kept in
-    record {
-      long = h .long;
-      room = let r = h .room in omega arith;
-      bound = a;
-      taken-bound = b;
-      left-bound = c;
-      bytes = h .bytes;
-      decided = h .decided;
-      still-open = h .still-open;
-      ranks = part-same w₁ w 0 (s .taken) k (λ i l. kept .taken-ranks i (omega arith)) ∙ h .ranks;
-      vertices = part-same w₁ w (G .size) (s .taken) k (kept .members) ∙ h .vertices;
-      left = part-same w₁ w (2 * G .size) (s .left) k (λ i l. kept .left-ranks i (omega arith)) ∙ h .left;
-      sum = h .sum;
-      apart = h .apart;
-    }
 
 -- the first and the last taken vertex are vertices
 module _ {n : ℕ} {ranks w : List ℕ} {s : State} (f : TallyFits n ranks w s) where
@@ -252,7 +229,7 @@ module _ {n : ℕ} {t ranks w : List ℕ} {q : Settings} {s : State} (a : Asks n
               answer = λ p h.
                   ap not (x .answer ∙ ap₂ (λ (z : Tally) (vs : List ℕ). beatenOf G q z vs) (e ∙ tally-is p h) (candidates-are p h))
                   ∙ sym (found-is p h ∙ ap (λ (d : Bool). d && not (beatenOf G q (tallyOf G p) (candidatesOf G p))) (isolated-is p h ∙ i));
-              stands = λ p h. stands-kept G p s w w₂ h kept;
+              stands = λ p h. stands-kept h kept;
               length-kept = kept .length-kept;
             }
           where

@@ -1,6 +1,5 @@
 // The rounds of a page: the loop that writes groups and makes steps until the walk is finished, the budget is spent or the output is full.
 ghost use mathlib.Core.Path.{_≡_};
-ghost use Prim.Native.Nat.{_≤_};
 ghost use lib.ListN.{length};
 ghost use Rattle.model.specs.Walk.{page};
 ghost use Rattle.model.specs.Listing.{rules};

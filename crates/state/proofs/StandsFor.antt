@@ -14,8 +14,8 @@ use Rattle.model.specs.Groups.{Settings, within}
 use Rattle.model.specs.Walk.{Position, has, finished}
 use Rattle.model.specs.Listing.{is, adjacent, pivot, apart, leftNeighbours, dead, takenList, rules}
 use Rattle.theory.proofs.basics.Tests.{lt-or-ge, count-same}
-use Rattle.theory.proofs.basics.Parts.{part-length, part-at, part-front}
-use Rattle.theory.specs.Parts.{part}
+use Rattle.theory.proofs.basics.Parts.{part-length, part-at, part-same, part-front}
+use Rattle.theory.specs.Parts.{part, StateKept}
 use Rattle.theory.proofs.basics.Passing.{map-at}
 use Rattle.theory.proofs.basics.PassingParts.{passing-count}
 use Rattle.theory.proofs.graph.Ranks.{vertex-at}
@@ -77,7 +77,7 @@ module _ {G : Graph} {p : Position} {w : List ℕ} {s : State} (St : Stands G p 
       ap (λ (i : ℕ). getD w i 0) (sym z) ∙ vertex-of-rank 0 h ∙ ap (vertexAt G) (pivot-first G p (omega arith) .2)
 
   -- it stands with each work slice that has the same in its three parts
-  pub stands-same : {u : List ℕ} → 8 * G .size ≤ length u → part u 0 (s .taken) ≡ part w 0 (s .taken) → part u (G .size) (s .taken) ≡ part w (G .size) (s .taken)
+  stands-same : {u : List ℕ} → 8 * G .size ≤ length u → part u 0 (s .taken) ≡ part w 0 (s .taken) → part u (G .size) (s .taken) ≡ part w (G .size) (s .taken)
       → part u (2 * G .size) (s .left) ≡ part w (2 * G .size) (s .left) → Stands G p u s
   stands-same room ranks vertices left =
       record {
@@ -96,7 +96,20 @@ module _ {G : Graph} {p : Position} {w : List ℕ} {s : State} (St : Stands G p 
         apart = St .apart;
       }
 
-  -- and so with one into which the parts were copied
+  -- and so with one that has the state's entries as they were
+  pub stands-kept : {u : List ℕ} → StateKept (G .size) (s .taken) w u → Stands G p u s
+  stands-kept {u} kept =
+      let long = kept .length-kept in
+      let room = St .room in
+      let taken = St .taken-bound in
+      let left = St .left-bound in
+      let bound = St .bound in
+      stands-same (omega arith)
+      (part-same u w 0 (s .taken) long (λ i l. kept .taken-ranks i (omega arith)))
+      (part-same u w (G .size) (s .taken) long (kept .members))
+      (part-same u w (2 * G .size) (s .left) long (λ i l. kept .left-ranks i (omega arith)))
+
+  -- and with one into which the parts were copied
   pub stands-copied : {b u : List ℕ} → Copied (3 * G .size) w b u → 8 * G .size ≤ length b → Stands G p u s
   stands-copied {b} {u} c h =
       let long = c .length-kept in

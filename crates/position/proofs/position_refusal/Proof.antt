@@ -1,6 +1,6 @@
 -- `position::position_refusal` meets its contract: each return goes by the tests that led there.
 -- Assumes nothing.
-use mathlib.Core.Path.{_≡_, refl, sym, ap, _∙_}
+use mathlib.Core.Path.{_≡_, refl, sym, _∙_}
 use mathlib.Core.Bool.{false}
 use native.Mathlib.Omega.{arith}
 use Rattle.model.specs.Listing.{rules}

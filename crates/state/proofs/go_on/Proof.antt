@@ -26,7 +26,7 @@ shared-slice-read-mark c =
 returns-2 : tie.Need-returns-2
 returns-2 c =
     let b = c .before .before .before .before .before .before .before .before .before .before .before .before in
-    open-stands (b .args .position .now) (stands-copied (b .pre .1) (c .before .before .before .before .before .copy .ensures) (b .pre .2)) (c .if2 .taken)
+    open-stands (b .args .position .now) (stands-copied (b .pre .1) (c .before .before .before .before .before .copy .ensures) (b .pre .2)) (omega (arith, c .if2 .taken))
 
 push-requires : tie.Need-push-requires
 push-requires c κs =

@@ -18,8 +18,7 @@ use Rattle.model.specs.Walk.{Position, only, has}
 use Rattle.model.specs.Listing.{is, adjacent, pivot, apart, leftNeighbours, dead}
 use Rattle.model.specs.Calls.{gap, reopened}
 use Rattle.model.specs.Faults.{Apart, Dead, Reopened}
-pub use Rattle.theory.proofs.basics.Tests.{test-map, in-length, not-different}
-use Rattle.theory.proofs.basics.Tests.{suc-less, Test, passes-or-fails, last-or-below, trichotomy}
+use Rattle.theory.proofs.basics.Tests.{suc-less, Test, test-map, in-length, not-different, passes-or-fails, last-or-below, trichotomy}
 use Rattle.theory.proofs.basics.Counting.{least-first, least-is}
 use Rattle.theory.proofs.graph.Ranks.{vertex-at}
 use Rattle.theory.proofs.walk.Remaining.{has-test}

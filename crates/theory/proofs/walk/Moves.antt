@@ -11,8 +11,7 @@ use native.Mathlib.Omega.{arith}
 use lib.ListN.{length, getD, take, set}
 use Rattle.model.specs.Walk.{Position, Rules, only, has, fresh, finished, advance, retreat, step, after}
 use Rattle.model.specs.Calls.{refusePosition}
-use Rattle.theory.proofs.basics.Tests.{fails}
-use Rattle.theory.proofs.calls.DeadPosition.{in-length}
+use Rattle.theory.proofs.basics.Tests.{fails, in-length}
 use Rattle.theory.proofs.walk.Remaining.{has-test, retreat-deep, retreat-here}
 use Rattle.theory.proofs.walk.Walk.{Lawful, after-add}
 use Rattle.theory.proofs.walk.Accepted.{walk-accepted}
