@@ -1,15 +1,13 @@
 -- The refusals of a table as a search over it finds them, and what an accepted table has.
 -- Assumes nothing.
-use Prim.Native.Nat.{ℕ, zero, suc, _*_, _≤_, _<_}
+use Prim.Native.Nat.{ℕ, _*_, _<_}
 use mathlib.Core.Path.{_≡_, refl}
-use mathlib.Core.Bool.{Bool, true, false, _||_, not, Bool·beq}
-use mathlib.Core.List.{List, [], _∷_}
+use mathlib.Core.Bool.{Bool, true, false, not, Bool·beq}
+use mathlib.Core.List.{List}
 use mathlib.Core.Logic.{_⊎_, inl, inr}
-use native.Mathlib.Nat.{not-suc-le-zero, le-of-suc-le-suc}
 use native.Mathlib.Omega.{arith}
-use lib.ListN.{length, getD}
+use lib.ListN.{length}
 use lib.Dec.{ltb, eqb}
-use borrow.Author.Tests.{lt-ltb, le-ltb}
 use Rattle.model.specs.Below.{any}
 use Rattle.model.specs.Graph.{Graph, byTable}
 use Rattle.model.specs.Meaning.{Simple}
@@ -17,22 +15,6 @@ use Rattle.model.specs.Calls.{refuse, over, looped, oneWay, refuseTable}
 use Rattle.theory.proofs.basics.Tests.{test-self, test-any, any-found, any-none, any-each, not-different, trichotomy}
 use Rattle.theory.proofs.calls.TableFaults.{table-accepted-iff, byte-table}
 use Rattle.graph.specs.Table.{TableFits, lent, graphOf, differ}
-
--- refusal 3: a byte that is over m, and none
-pub over-found : (m : ℕ) (bs : List ℕ) (i : ℕ) → i < length bs → m < getD bs i 0 → over m bs ≡ true
-unfolding over
-over-found m [] i h g = absurd (not-suc-le-zero h)
-over-found m (b ∷ bs) zero h g = rw (lt-ltb m b g)
-over-found m (b ∷ bs) (suc i) h g = either (ltb m b) (over-found m bs i (le-of-suc-le-suc h) g)
-  where
-    either : (a : Bool) → over m bs ≡ true → (a || over m bs) ≡ true
-    either true e = refl
-    either false e = e
-
-pub over-none : (m : ℕ) (bs : List ℕ) → ((i : ℕ) → i < length bs → getD bs i 0 ≤ m) → over m bs ≡ false
-unfolding over
-over-none m [] f = refl
-over-none m (b ∷ bs) f = rw (le-ltb m b (f zero (omega arith))) (over-none m bs (λ i h. f (suc i) (omega arith)))
 
 -- refusal 5: of two vertices one is below the other, so it is enough to test each u against the vertices below it
 module _ (G : Graph) where

@@ -1,7 +1,6 @@
--- The size of the graph that a table holds, its rows and its degrees.
+-- The rows of a table and the degrees of the graph that it holds.
 -- Assumes nothing.
 use Prim.Native.Nat.{ℕ, _+_, _*_, _≤_, _<_}
-use mathlib.Core.Path.{_≡_, refl}
 use mathlib.Core.List.{List}
 use native.Mathlib.Nat.{mul-le-mul}
 use native.Mathlib.Omega.{arith}
@@ -14,9 +13,6 @@ use Rattle.graph.specs.Table.{TableFits}
 -- a row ends within the table, and the table is no longer than 1,024 × 1,024 bytes
 pub row-fits : {n : ℕ} {t : List ℕ} {u : ℕ} → TableFits n t → u < n → (u * n + n ≤ length t) × (length t ≤ 1048576)
 row-fits {n} {t} {u} f h = (omega (arith, row-end n u h), omega (arith, mul-le-mul (f .small) (f .small)))
-
-pub table-size : (n : ℕ) (t : List ℕ) → byTable n t .size ≡ n
-table-size n t = refl
 
 -- a degree is at most n
 pub table-degree : (n : ℕ) (t : List ℕ) (u : ℕ) → degree (byTable n t) u ≤ n

@@ -1,6 +1,6 @@
 // The settings of a call, and the isolation test over a set's numbers.
 ghost use mathlib.Core.Path.{_≡_};
-ghost use Prim.Native.Nat.{_+_, _-_, _*_, _<_, _≤_, min, max};
+ghost use Prim.Native.Nat.{_+_, _-_, _≤_, min, max};
 ghost use Rattle.model.specs.Groups.{within};
 ghost use Rattle.model.specs.Calls.{refuseSettings};
 ghost use Rattle.isolation.specs.Numbers.{settingsOf, withMember, Small, isolatedOf, hopelessOf};

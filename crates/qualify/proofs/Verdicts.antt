@@ -12,7 +12,7 @@ use borrow.Author.Tests.{eqb-true}
 use Rattle.model.specs.Below.{bit, count}
 use Rattle.model.specs.Graph.{Graph, degree, vertexAt}
 use Rattle.model.specs.Walk.{Position, has, found}
-use Rattle.model.specs.Listing.{is, adjacent, pivot, apart, takenSet, takenList, rules}
+use Rattle.model.specs.Listing.{is, adjacent, pivot, takenSet, takenList, rules}
 use Rattle.model.specs.Meaning.{Loopless, Symmetric}
 use Rattle.theory.specs.Search.{Candidates}
 use Rattle.theory.proofs.basics.Tests.{test-and, test-self, fails}
@@ -30,7 +30,7 @@ use Rattle.state.specs.declared.State.{State}
 use Rattle.state.specs.State.{takenRanks, leftRanks, Stands}
 use Rattle.qualify.specs.Qualify.{joinedOf, candidatesOf, Sifts, Sifted, tallyOf, readTally, TallyFits, Asks, SaysQualifies}
 use Rattle.state.proofs.Taken.{taken-length}
-use Rattle.state.proofs.StandsFor.{taken-low, taken-count, left-count, vertex-entry, left-entry, stands-kept}
+use Rattle.state.proofs.StandsFor.{taken-count, left-count, vertex-entry, left-entry, vertex-low, left-few, stands-kept}
 use Rattle.qualify.proofs.TakenSet.{taken-tally, taken-clique, taken-candidates, found-apart, found-untaken, found-open, found-by}
 
 -- two tests of which no number passes both pass no more than n numbers below n
@@ -120,7 +120,7 @@ module _ {n : ℕ} {t ranks w : List ℕ} {q : Settings} {s : State} (a : Asks n
           work-fits = let r = h₀ .room in omega arith;
           some = some;
           few = taken-few;
-          vertices = taken-low (a .ranked) (a .stands);
+          vertices = vertex-low h₀;
         }
 
     -- what is read is the taken set's numbers
@@ -130,8 +130,8 @@ module _ {n : ℕ} {t ranks w : List ℕ} {q : Settings} {s : State} (a : Asks n
         let first = vertex-entry G p w s h 0 some in
         let last = vertex-entry G p w s h (s .taken - 1) (omega arith) in
         let zero-in = ap (λ (k : ℕ). getD w k 0) (sym (add-zero n)) in
-        let low = taken-low (a .ranked) (a .stands) 0 some in
-        let high = taken-low (a .ranked) (a .stands) (s .taken - 1) (omega arith) in
+        let low = vertex-low h₀ 0 some in
+        let high = vertex-low h₀ (s .taken - 1) (omega arith) in
         same-tally _ _
         (sym l)
         (h .sum)
@@ -160,9 +160,6 @@ module _ {n : ℕ} {t ranks w : List ℕ} {q : Settings} {s : State} (a : Asks n
 
       -- ---- the common neighbours
 
-      left-few : s .left ≤ n
-      left-few = let b = h₀ .bound in let c = h₀ .left-bound in omega arith
-
       pub sifts : Sifts n t ranks w (s .taken) (s .left)
       unfolding leftRanks
       sifts =
@@ -170,8 +167,8 @@ module _ {n : ℕ} {t ranks w : List ℕ} {q : Settings} {s : State} (a : Asks n
             ranked = a .ranked;
             room = h₀ .room;
             few-taken = taken-few;
-            few-left = left-few;
-            vertices = taken-low (a .ranked) (a .stands);
+            few-left = left-few h₀;
+            vertices = vertex-low h₀;
             left-ranks = λ i l.
                 let e = left-entry G p₀ w s h₀ i l in
                 let c = left-count G p₀ w s h₀ in

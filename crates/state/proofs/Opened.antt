@@ -17,7 +17,7 @@ use Rattle.theory.proofs.basics.Tests.{last-or-below, lt-or-ge, trichotomy}
 use Rattle.theory.proofs.basics.Passing.{no-entries}
 use Rattle.theory.proofs.walk.Scans.{least-le, decided-below, open-from}
 use Rattle.theory.proofs.walk.Remaining.{open-zero, fresh-open}
-use Rattle.graph.proofs.Refusals.{over-found}
+use Rattle.theory.proofs.calls.Fault.{over-test}
 use Rattle.state.specs.State.{takenRanks, degreesOf, Stands}
 use Rattle.state.specs.NextRank.{Decides, RanksOpened}
 use Rattle.state.specs.declared.State.{State}
@@ -169,7 +169,7 @@ module _ {G : Graph} (p : Position) {w : List ℕ} {s : State} (St : Stands G (r
 
 -- no byte is over the bound
 pub bytes-most : (m : ℕ) (p : Position) → over m p ≡ false → (r : ℕ) → r < length p → getD p r 0 ≤ m
-bytes-most m p e r h = ⊎-elim (λ l. absurd (true≢false (sym (over-found m p r h l) ∙ e))) (λ l. l) (lt-or-ge m (getD p r 0))
+bytes-most m p e r h = ⊎-elim (λ l. absurd (true≢false (sym (over-test m p .1 (r, h, l)) ∙ e))) (λ l. l) (lt-or-ge m (getD p r 0))
 
 -- ---- ranks opened one after the other
 

@@ -15,16 +15,12 @@ use Rattle.model.specs.Listing.{adjacent, pivot, apart, takenList}
 use Rattle.theory.proofs.basics.Tests.{any-same, last-or-below, lt-or-ge, trichotomy}
 use Rattle.theory.proofs.basics.Parts.{part-push, part-before, part-after, part-below, kept-none}
 use Rattle.theory.specs.Parts.{part, Filled}
-use Rattle.graph.specs.Table.{graphOf}
-use Rattle.graph.proofs.Table.{table-size}
-use Rattle.ranks.proofs.Ranks.{entry-below}
-use Rattle.ranks.specs.Ranks.{HoldsRanks}
-use Rattle.state.specs.State.{takenRanks, leftRanks, degreesOf, Stands, StandsForOne}
+use Rattle.state.specs.State.{takenRanks, leftRanks, degreesOf, Stands}
 use Rattle.state.specs.NextRank.{Decides, Pushed, LeftOnceTaken}
 use Rattle.state.specs.declared.State.{State}
 use Rattle.state.proofs.Taken.{degrees-more, untaken-at}
 use Rattle.state.proofs.NextRank.{ranks-taken, vertices-taken, ranks-left, vertices-left, left-kept, left-more, left-same, left-still-none, left-first, apart-taken, apart-left}
-use Rattle.state.proofs.StandsFor.{taken-count, vertex-entry, pivot-entry, none-taken, some-taken, enough}
+use Rattle.state.proofs.StandsFor.{taken-count, vertex-entry, pivot-entry, none-taken, some-taken, left-few}
 
 module _ {G : Graph} {p q : Position} {w : List ℕ} {s : State} (St : Stands G p w s) (low : s .decided < G .size) {x : ℕ} (D : Decides (s .decided) x p q) where
   -- what any push keeps
@@ -124,101 +120,75 @@ module _ {G : Graph} {p q : Position} {w : List ℕ} {s : State} (St : Stands G 
           (λ l. left-still-none G low (St .still-open) D (St .long) (none-taken St (omega arith)) e)
           (lt-or-ge 0 (s .taken))
 
--- ---- the stores, for the graph of a table
+-- ---- the stores
 
-module _ {n : ℕ} {t ranks : List ℕ} (R : HoldsRanks n t ranks) {w : List ℕ} {s : State} (one : StandsForOne (graphOf n t) w s) (low : s .decided < n) where
-  size : graphOf n t .size ≡ n
-  size = table-size n t
+-- two ranks are adjacent where their vertices are joined
+pub adjacent-by : (G : Graph) (a b : ℕ) {u v : ℕ} → u ≡ vertexAt G a → v ≡ vertexAt G b → G .joined u v ≡ adjacent G a b
+unfolding adjacent
+adjacent-by G a b e f = ap₂ (G .joined) e f
 
-  few-left : s .left ≤ n
-  few-left = let a = one .1 .left-bound in omega arith
-
-  few-taken : s .taken < n
-  few-taken = let a = one .1 .taken-bound in omega arith
-
-  -- the vertex that is first in part 1 is the pivot's
-  pivot-adjacent : {p : Position} → Stands (graphOf n t) p w s → 0 < s .taken → {u v : ℕ} → u ≡ getD w n 0 → v ≡ getD ranks (s .decided) 0
-      → graphOf n t .joined u v ≡ adjacent (graphOf n t) (pivot (graphOf n t) p) (s .decided)
-  unfolding adjacent
-  pivot-adjacent St h e f = ap₂ (graphOf n t .joined) (e ∙ ap (λ (k : ℕ). getD w k 0) (sym size) ∙ pivot-entry St h) (f ∙ R .order (s .decided) low)
-
+module _ {G : Graph} {w : List ℕ} {s : State} (low : s .decided < G .size) where
   -- a left neighbour of the pivot goes onto part 2
-  pub neighbour-pushed : 0 < s .taken → {u v : ℕ} → u ≡ getD w n 0 → v ≡ getD ranks (s .decided) 0 → graphOf n t .joined u v ≡ true
-      → Pushed (graphOf n t) 2 w s (set w (2 * n + s .left) (s .decided)) (record { decided = s .decided + 1; taken = s .taken; left = s .left + 1; sum = s .sum; apart = s .apart })
+  pub neighbour-pushed : 0 < s .taken → {u v : ℕ} → u ≡ getD w (G .size) 0 → v ≡ vertexAt G (s .decided) → G .joined u v ≡ true
+      → Pushed G 2 w s (set w (2 * G .size + s .left) (s .decided)) (record { decided = s .decided + 1; taken = s .taken; left = s .left + 1; sum = s .sum; apart = s .apart })
   neighbour-pushed some e f j =
       let d = s .decided in
-      let a = enough R one in
-      let b = few-left in
-      let c = few-taken in
+      let n = G .size in
       record {
         stands = λ p q St D.
-            push-left St (omega (arith, size)) D refl (length-set w (2 * n + s .left) d) (s .left + 1) (let x = St .left-bound in omega arith)
+            let a = St .room in
+            let b = left-few St in
+            let c = St .taken-bound in
+            push-left St low D refl (length-set w (2 * n + s .left) d) (s .left + 1) (let x = St .left-bound in omega arith)
             (part-after w 0 (s .taken) (2 * n + s .left) d (omega arith))
-            (part-after w (graphOf n t .size) (s .taken) (2 * n + s .left) d (omega (arith, size)))
-            (ap (λ (k : ℕ). part (set w (2 * n + s .left) d) (2 * k) (s .left + 1)) size
-            ∙ part-push w (2 * n) (s .left) d (omega arith)
-            ∙ ap (λ (k : ℕ). part w (2 * k) (s .left) ++ (d ∷ [])) (sym size)
-            ∙ sym (push-neighbour St (omega (arith, size)) D refl some (sym (pivot-adjacent St some e f) ∙ j)));
+            (part-after w n (s .taken) (2 * n + s .left) d (omega arith))
+            (part-push w (2 * n) (s .left) d (omega arith) ∙ sym (push-neighbour St low D refl some (sym (adjacent-by G (pivot G p) d (e ∙ pivot-entry St some) f) ∙ j)));
         next = refl;
       }
 
   -- another rank is left: no store
-  pub other-pushed : (0 < s .taken → (u : ℕ) × (v : ℕ) × (u ≡ getD w n 0) × (v ≡ getD ranks (s .decided) 0) × (graphOf n t .joined u v ≡ false))
-      → Pushed (graphOf n t) 2 w s w (record { decided = s .decided + 1; taken = s .taken; left = s .left; sum = s .sum; apart = s .apart })
+  pub other-pushed : (0 < s .taken → (u : ℕ) × (v : ℕ) × (u ≡ getD w (G .size) 0) × (v ≡ vertexAt G (s .decided)) × (G .joined u v ≡ false))
+      → Pushed G 2 w s w (record { decided = s .decided + 1; taken = s .taken; left = s .left; sum = s .sum; apart = s .apart })
   other-pushed f =
-      record {
-        stands = λ p q St D. push-other St (omega (arith, size)) D refl (λ h. let j = f h in sym (pivot-adjacent St h (j .2) (j .3)) ∙ j .4);
-        next = refl;
-      }
+      record { stands = λ p q St D. push-other St low D refl (λ h. let j = f h in sym (adjacent-by G (pivot G p) (s .decided) (j .2 ∙ pivot-entry St h) (j .3)) ∙ j .4); next = refl }
 
   -- part 2 as the rank is taken: the pivot stays, or the rank becomes the pivot
-  pub left-stays : 0 < s .taken → LeftOnceTaken (graphOf n t) w s w (s .left)
-  left-stays some =
-      record {
-        holds = λ p q St D. left-before St (omega (arith, size)) D refl some;
-        few = one .1 .left-bound;
-        kept = kept-none (2 * graphOf n t .size) (3 * graphOf n t .size) w;
-      }
+  pub left-stays : s .left ≤ s .decided → 0 < s .taken → LeftOnceTaken G w s w (s .left)
+  left-stays few some =
+      record { holds = λ p q St D. left-before St low D refl some; few = few; kept = kept-none (2 * G .size) (3 * G .size) w }
 
-  pub left-found : s .taken ≡ 0 → {w₁ : List ℕ} {m i : ℕ} → i ≡ s .decided → m ≤ i → Filled (2 * n) (3 * n) (passing i (adjacent (graphOf n t) (s .decided))) w w₁ m
-      → LeftOnceTaken (graphOf n t) w s w₁ m
+  pub left-found : s .taken ≡ 0 → {w₁ : List ℕ} {m i : ℕ} → i ≡ s .decided → m ≤ i → Filled (2 * G .size) (3 * G .size) (passing i (adjacent G (s .decided))) w w₁ m
+      → LeftOnceTaken G w s w₁ m
   left-found none {w₁} {m} e few L =
       record {
-        holds = λ p q St D. L .listed ∙ ap (λ (k : ℕ). passing k (adjacent (graphOf n t) (s .decided))) e ∙ left-new St low D refl none;
+        holds = λ p q St D. L .listed ∙ ap (λ (k : ℕ). passing k (adjacent G (s .decided))) e ∙ left-new St low D refl none;
         few = omega arith;
         kept = L .kept;
       }
 
   -- the rank goes onto part 0 and its vertex onto part 1, after part 2 was written to w₁
-  pub taken-pushed : {v e m : ℕ} {b a : Bool} {w₁ : List ℕ} → v ≡ getD ranks (s .decided) 0 → e ≡ getD ranks (n + v) 0
-      → b ≡ (s .apart || a) → a ≡ any (s .taken) (λ j. not (graphOf n t .joined (getD w (n + j) 0) v)) → LeftOnceTaken (graphOf n t) w s w₁ m
-      → Pushed (graphOf n t) 1 w s (set (set w₁ (s .taken) (s .decided)) (n + s .taken) v)
+  pub taken-pushed : {v e m : ℕ} {b a : Bool} {w₁ : List ℕ} → v ≡ vertexAt G (s .decided) → e ≡ degree G v
+      → b ≡ (s .apart || a) → a ≡ any (s .taken) (λ j. not (G .joined (getD w (G .size + j) 0) v)) → LeftOnceTaken G w s w₁ m
+      → Pushed G 1 w s (set (set w₁ (s .taken) (s .decided)) (G .size + s .taken) v)
       (record { decided = s .decided + 1; taken = s .taken + 1; left = m; sum = s .sum + e; apart = b })
   taken-pushed {v} {e} {m} {b} {a} {w₁} v-is e-is b-is a-is L =
+      let n = G .size in
       let d = s .decided in
       let k = s .taken in
       let w₂ = set w₁ k d in
-      let w₃ = set w₂ (n + k) v in
-      let l = entry-below R d low in
-      let room = enough R one in
       let long = L .kept .length-kept in
-      let c = few-taken in
-      let at = v-is ∙ R .order d low in
       record {
         stands = λ p q St D.
-            push-taken St (omega (arith, size)) D refl (simp length-set long) m e (L .few)
-            (e-is ∙ R .degrees v (omega arith) ∙ ap (degree (graphOf n t)) at) b
-            (b-is ∙ ap (λ (y : Bool). s .apart || y) a-is ∙ ap₂ (λ (a x : ℕ). s .apart || any k (λ j. not (graphOf n t .joined (getD w (a + j) 0) x))) (sym size) at)
+            let room = St .room in
+            let c = St .taken-bound in
+            push-taken St low D refl (simp length-set long) m e (L .few) (e-is ∙ ap (degree G) v-is) b
+            (b-is ∙ ap (λ (y : Bool). s .apart || y) (a-is ∙ ap (λ (x : ℕ). any k (λ j. not (G .joined (getD w (n + j) 0) x))) v-is))
             (part-after w₂ 0 (k + 1) (n + k) v (omega arith)
             ∙ ap (λ (i : ℕ). part (set w₁ i d) 0 (k + 1)) (sym (zero-add k))
             ∙ part-push w₁ 0 k d (omega arith)
-            ∙ ap (λ (us : List ℕ). us ++ (d ∷ [])) (part-below _ _ w w₁ (L .kept) 0 k (omega (arith, size))))
-            (ap (λ (a : ℕ). part w₃ a (k + 1)) size
-            ∙ part-push w₂ n k v (simp length-set (omega arith))
-            ∙ ap₂ (λ (us : List ℕ) (x : ℕ). us ++ (x ∷ []))
-            (part-before w₁ n k k d (omega arith) ∙ part-below _ _ w w₁ (L .kept) n k (omega (arith, size)) ∙ ap (λ (a : ℕ). part w a k) (sym size)) at)
-            (part-before w₂ (2 * graphOf n t .size) m (n + k) v (omega (arith, size))
-            ∙ part-before w₁ (2 * graphOf n t .size) m k d (omega (arith, size))
-            ∙ L .holds p q St D);
+            ∙ ap (λ (us : List ℕ). us ++ (d ∷ [])) (part-below _ _ w w₁ (L .kept) 0 k (omega arith)))
+            (part-push w₂ n k v (simp length-set (omega arith))
+            ∙ ap₂ (λ (us : List ℕ) (x : ℕ). us ++ (x ∷ [])) (part-before w₁ n k k d (omega arith) ∙ part-below _ _ w w₁ (L .kept) n k (omega arith)) v-is)
+            (part-before w₂ (2 * n) m (n + k) v (omega arith) ∙ part-before w₁ (2 * n) m k d (omega arith) ∙ L .holds p q St D);
         next = refl;
       }

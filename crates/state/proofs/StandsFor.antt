@@ -5,11 +5,12 @@ use mathlib.Core.Path.{_≡_, refl, sym, ap, ap₂, _∙_}
 use mathlib.Core.Bool.{Bool, true, false, _&&_, not, or-false}
 use mathlib.Core.List.{List}
 use mathlib.Core.Logic.{⊎-elim}
+use native.Mathlib.Nat.{add-zero}
 use native.Mathlib.Omega.{arith}
 use lib.ListN.{length, getD}
 use lib.Dec.{eqb}
 use borrow.Author.Tests.{eq-eqb, ne-eqb}
-use Rattle.model.specs.Graph.{Graph, degree, vertexAt}
+use Rattle.model.specs.Graph.{Graph, vertexAt}
 use Rattle.model.specs.Groups.{Settings, within}
 use Rattle.model.specs.Walk.{Position, has, finished}
 use Rattle.model.specs.Listing.{is, adjacent, pivot, apart, leftNeighbours, dead, takenList, rules}
@@ -21,9 +22,9 @@ use Rattle.theory.proofs.basics.PassingParts.{passing-count}
 use Rattle.theory.proofs.graph.Ranks.{vertex-at}
 use Rattle.theory.proofs.walk.Moves.{has-found, has-none, finished-is}
 use Rattle.graph.specs.Table.{graphOf}
-use Rattle.graph.proofs.Table.{table-size, table-degree}
+use Rattle.graph.proofs.Table.{table-degree}
 use Rattle.ranks.specs.Ranks.{HoldsRanks}
-use Rattle.state.specs.State.{takenRanks, leftOfPivot, leftRanks, Stands, StandsForOne, Copied}
+use Rattle.state.specs.State.{takenRanks, leftOfPivot, leftRanks, Stands, Copied}
 use Rattle.state.specs.declared.State.{State}
 use Rattle.state.proofs.Taken.{taken-list, taken-length, taken-at, taken-has, untaken-has, pivot-first, apart-none, degrees-bound}
 
@@ -54,6 +55,7 @@ module _ {G : Graph} {p : Position} {w : List ℕ} {s : State} (St : Stands G p 
       let k = taken-count G p w s St in
       vertex-entry G p w s St j h ∙ ap (λ (l : List ℕ). getD l j 0) (taken-list G p) ∙ map-at (vertexAt G) (takenRanks G p) j (omega arith)
 
+  -- they are vertices
   pub vertex-low : (j : ℕ) → j < s .taken → getD w (G .size + j) 0 < G .size
   vertex-low j h =
       let k = taken-count G p w s St in
@@ -62,12 +64,23 @@ module _ {G : Graph} {p : Position} {w : List ℕ} {s : State} (St : Stands G p 
       let e = vertex-of-rank j h in
       omega arith
 
+  -- the pivot's comes first
+  pub first-low : 0 < s .taken → getD w (G .size) 0 < G .size
+  first-low h =
+      let a = vertex-low 0 h in
+      let b = ap (λ (k : ℕ). getD w k 0) (add-zero (G .size)) in
+      omega arith
+
   pub rank-low : (j : ℕ) → j < s .taken → getD w j 0 < s .decided
   rank-low j h =
       let k = taken-count G p w s St in
       let b = taken-at G p j (omega arith) .1 in
       let e = rank-entry j h in
       ⊎-elim (λ l. l) (λ l. let z = St .still-open (getD (takenRanks G p) j 0) (omega arith) in absurd (omega arith)) (lt-or-ge (getD w j 0) (s .decided))
+
+  -- no more neighbours of the pivot are left than there are ranks
+  pub left-few : s .left ≤ G .size
+  left-few = let a = St .left-bound in let b = St .bound in omega arith
 
   -- the pivot's vertex comes first in part 1
   pub pivot-entry : 0 < s .taken → getD w (G .size) 0 ≡ vertexAt G (pivot G p)
@@ -179,41 +192,13 @@ module _ {G : Graph} {p : Position} {w : List ℕ} {s : State} (St : Stands G p 
 
 -- ---- the same for the graph of a table
 
-module _ {n : ℕ} {t ranks : List ℕ} (R : HoldsRanks n t ranks) {w : List ℕ} {s : State} (one : StandsForOne (graphOf n t) w s) where
-  -- the work slice has 8 × n entries or more
-  pub enough : 8 * n ≤ length w
-  enough = let a = one .1 .room in let b = table-size n t in omega arith
-
-  -- the taken vertices in part 1 are vertices
-  pub taken-low : (j : ℕ) → j < s .taken → getD w (n + j) 0 < n
-  taken-low j h =
-      let a = vertex-low (one .1) j h in
-      let b = table-size n t in
-      let c = ap (λ (k : ℕ). getD w (k + j) 0) b in
-      omega arith
-
-  pub first-low : 0 < s .taken → getD w n 0 < n
-  first-low h =
-      let a = taken-low 0 h in
-      let z : n + 0 ≡ n = omega arith in
-      let b = ap (λ (k : ℕ). getD w k 0) z in
-      omega arith
-
-module _ {n : ℕ} {t ranks : List ℕ} (R : HoldsRanks n t ranks) where
-  -- a degree, and the sum of the degrees of the taken vertices, are small
-  degree-small : (v : ℕ) → degree (graphOf n t) v ≤ 1024
-  degree-small v = let a = table-degree n t v in let b = R .fits .small in omega arith
-
-  pub degree-read : (v : ℕ) {e : ℕ} → e ≡ getD ranks (n + v) 0 → v < n → e ≤ 1024
-  degree-read v e h = let a = R .degrees v h in let b = degree-small v in omega arith
-
-  pub sum-small : {p : Position} {w : List ℕ} {s : State} → Stands (graphOf n t) p w s → s .sum ≤ 1048576
-  sum-small {p} {w} {s} St =
-      let a = degrees-bound (graphOf n t) 1024 degree-small (takenList (graphOf n t) p) in
-      let b = taken-length (graphOf n t) p ∙ taken-count (graphOf n t) p w s St in
-      let c = St .sum in
-      let d = St .taken-bound in
-      let e = St .bound in
-      let f = table-size n t in
-      let g = R .fits .small in
-      omega arith
+-- the sum of the degrees of the taken vertices is small
+pub sum-small : {n : ℕ} {t ranks : List ℕ} → HoldsRanks n t ranks → {p : Position} {w : List ℕ} {s : State} → Stands (graphOf n t) p w s → s .sum ≤ 1048576
+sum-small {n} {t} R {p} {w} {s} St =
+    let g = R .fits .small in
+    let a = degrees-bound (graphOf n t) 1024 (λ v. omega (arith, table-degree n t v)) (takenList (graphOf n t) p) in
+    let b = taken-length (graphOf n t) p ∙ taken-count (graphOf n t) p w s St in
+    let c = St .sum in
+    let d = St .taken-bound in
+    let e = St .bound in
+    omega arith

@@ -1,13 +1,13 @@
 -- What the functions that decide or open ranks leave behind: the state with the next rank decided, and the marks of the position.
 -- Assumes nothing.
-use Prim.Native.Nat.{ℕ, _+_, _-_, _*_, _≤_, _<_}
+use Prim.Native.Nat.{ℕ, _+_, _≤_, _<_}
 use mathlib.Core.Path.{_≡_}
 use mathlib.Core.List.{List}
 use lib.ListN.{length, getD}
 use Rattle.model.specs.Graph.{Graph}
 use Rattle.model.specs.Walk.{Position}
 use Rattle.graph.specs.Table.{TableFits}
-use Rattle.theory.specs.Parts.{part, Kept}
+use Rattle.theory.specs.Parts.{part, membersAt, leftRanksAt, candidatesAt, HoldsVertices, Kept}
 use Rattle.state.specs.State.{leftRanks, Stands}
 use Rattle.state.specs.declared.State.{State}
 
@@ -27,15 +27,15 @@ pub record Pushed (G : Graph) (x : ℕ) (w : List ℕ) (s : State) (w₂ : List 
 -- the first k entries of part 1 are vertices, and so is v
 pub record Misses (n : ℕ) (t w : List ℕ) (k v : ℕ) : Type 0 where
   pub fits : TableFits n t
-  pub room : n + k ≤ length w
-  pub vertices : (j : ℕ) → j < k → getD w (n + j) 0 < n
+  pub room : membersAt n + k ≤ length w
+  pub vertices : HoldsVertices n w (membersAt n) k
   pub vertex : v < n
 
 -- As the next rank is taken: part 2 holds the m left neighbours of the pivot of every position that then has it taken, and all else is as it was.
 pub record LeftOnceTaken (G : Graph) (w : List ℕ) (s : State) (w₂ : List ℕ) (m : ℕ) : Type 0 where
-  pub holds : (p q : Position) → Stands G p w s → Decides (s .decided) 1 p q → part w₂ (2 * G .size) m ≡ leftRanks G q
+  pub holds : (p q : Position) → Stands G p w s → Decides (s .decided) 1 p q → part w₂ (leftRanksAt (G .size)) m ≡ leftRanks G q
   pub few : m ≤ s .decided
-  pub kept : Kept (2 * G .size) (3 * G .size) w w₂
+  pub kept : Kept (leftRanksAt (G .size)) (candidatesAt (G .size)) w w₂
 
 -- the ranks from a to below e are open, and the others are as they were
 pub record RanksOpened (a e : ℕ) (p q : Position) : Type 0 where

@@ -8,7 +8,7 @@ use mathlib.Core.List.{List, [], _∷_}
 use lib.ListN.{length, getD, take}
 use Rattle.model.specs.Below.{passing}
 use Rattle.model.specs.Graph.{Graph, degree}
-use Rattle.theory.specs.Parts.{part}
+use Rattle.theory.specs.Parts.{part, takenRanksAt, membersAt, leftRanksAt}
 use Rattle.model.specs.Walk.{Position, has, finished}
 use Rattle.model.specs.Listing.{is, adjacent, pivot, apart, takenList, rules}
 use Rattle.isolation.specs.declared.Settings.{Settings}
@@ -43,9 +43,9 @@ pub record Stands (G : Graph) (p : Position) (w : List ℕ) (s : State) : Type 0
   pub bytes : (r : ℕ) → getD p r 0 ≤ 2
   pub decided : (r : ℕ) → r < s .decided → getD p r 0 ≢ 0
   pub still-open : (r : ℕ) → s .decided ≤ r → getD p r 0 ≡ 0
-  pub ranks : part w 0 (s .taken) ≡ takenRanks G p
-  pub vertices : part w (G .size) (s .taken) ≡ takenList G p
-  pub left : part w (2 * G .size) (s .left) ≡ leftRanks G p
+  pub ranks : part w (takenRanksAt (G .size)) (s .taken) ≡ takenRanks G p
+  pub vertices : part w (membersAt (G .size)) (s .taken) ≡ takenList G p
+  pub left : part w (leftRanksAt (G .size)) (s .left) ≡ leftRanks G p
   pub sum : s .sum ≡ degreesOf G (takenList G p)
   pub apart : s .apart ≡ apart G p
 

@@ -7,6 +7,7 @@ ghost use lib.ListN.{length, getD};
 ghost use Rattle.model.specs.Below.{any, least};
 ghost use Rattle.model.specs.Listing.{is};
 ghost use Rattle.model.specs.Calls.{over, gap, reopened};
+ghost use Rattle.theory.specs.Parts.{membersAt};
 ghost use Rattle.graph.specs.Table.{graphOf};
 ghost use Rattle.ranks.specs.Ranks.{HoldsRanks};
 ghost use Rattle.isolation.specs.Numbers.{FactorFits};
@@ -16,6 +17,8 @@ use graph::entry_at;
 use graph::joined;
 use isolation::Settings;
 use isolation::within;
+use ranks::degree_at;
+use ranks::vertex_at;
 
 // What a page keeps beside the position and the work slice: how many ranks are decided, how many of them are taken, how many neighbours of the
 // pivot are left, the sum of the taken vertices' degrees, and whether two taken ranks are not adjacent.
@@ -70,7 +73,7 @@ pub fn is_dead(s: State, q: Settings, work: &[u16]) -> bool
 // Whether some of the first k vertices of part 1 is not joined to v. Reads them from the last, up to one that is not.
 fn misses_one(table: &[u8], n: usize, work: &[u16], k: usize, v: usize) -> bool
     requires { ⌜ Misses n (now table) (now work) k v ⌝ }
-    ensures { λ r. ⌜ r ≡ any k (λ j. not (graphOf n (now (table .entry)) .joined (getD (now (work .entry)) (n + j) 0) v)) ⌝ }
+    ensures { λ r. ⌜ r ≡ any k (λ j. not (graphOf n (now (table .entry)) .joined (getD (now (work .entry)) (membersAt n + j) 0) v)) ⌝ }
 {
     let mut j = k;
     while 0 < j {
@@ -96,11 +99,11 @@ fn left_once_taken(s: State, table: &[u8], ranks: &[u16], n: usize, work: &mut [
     if 0 < k {
         return s.left;
     }
-    let v = entry_at(ranks, d);
+    let v = vertex_at(ranks, n, d);
     let mut m: usize = 0;
     let mut i = 0;
     while i < d {
-        let u = entry_at(ranks, i);
+        let u = vertex_at(ranks, n, i);
         if joined(table, n, v, u) {
             work[2 * n + m] = i as u16;
             m += 1;
@@ -117,8 +120,8 @@ pub fn push_taken(s: State, table: &[u8], ranks: &[u16], n: usize, work: &mut [u
 {
     let d = s.decided;
     let k = s.taken;
-    let v = entry_at(ranks, d);
-    let degree = entry_at(ranks, n + v);
+    let v = vertex_at(ranks, n, d);
+    let degree = degree_at(ranks, n, v);
     let apart = either(s.apart, misses_one(table, n, work, k, v));
     let left = left_once_taken(s, table, ranks, n, work);
     work[k] = d as u16;
@@ -150,7 +153,7 @@ pub fn push_left(s: State, table: &[u8], ranks: &[u16], n: usize, work: &mut [u1
         };
     }
     let p = entry_at(work, n);
-    let v = entry_at(ranks, d);
+    let v = vertex_at(ranks, n, d);
     if joined(table, n, p, v) {
         work[2 * n + m] = d as u16;
         return State {

@@ -22,15 +22,12 @@ use Rattle.theory.proofs.calls.DeadPosition.{below-pivot}
 use Rattle.theory.proofs.walk.Moves.{retreat-is}
 use Rattle.theory.proofs.walk.Remaining.{open-zero, fresh-open, retreat-length}
 use Rattle.theory.specs.Parts.{part}
-use Rattle.graph.specs.Table.{graphOf}
-use Rattle.graph.proofs.Table.{table-size}
-use Rattle.ranks.specs.Ranks.{HoldsRanks}
 use Rattle.state.specs.State.{takenRanks, leftOfPivot, leftRanks, degreesOf, Stands}
 use Rattle.state.specs.NextRank.{Decides, RanksOpened}
 use Rattle.walk.specs.Walk.{Trimmed}
 use Rattle.state.specs.declared.State.{State}
 use Rattle.state.proofs.Taken.{Pair, apart-pairs, pair-in, degrees-more, taken-list, taken-length, taken-has, left-none, pivot-first, pivot-is}
-use Rattle.state.proofs.StandsFor.{taken-count, left-count, rank-entry, left-entry, rank-low, vertex-of-rank, taken-low}
+use Rattle.state.proofs.StandsFor.{taken-count, left-count, rank-entry, left-entry, rank-low, vertex-of-rank, left-few}
 use Rattle.state.proofs.Opened.{opened, opened-length, opened-below, opened-above}
 
 -- r is a taken rank of the position p of the graph G, and no taken rank is higher
@@ -201,10 +198,6 @@ module _ {G : Graph} {p : Position} {w : List ℕ} {s : State} (St : Stands G p 
   top-vertex : getD w (G .size + (s .taken - 1)) 0 ≡ vertexAt G r
   top-vertex = vertex-of-rank St (s .taken - 1) (omega arith) ∙ ap (vertexAt G) (sym at-end)
 
-  -- the sum without its vertex's degree
-  popped-sum : s .sum ≡ degreesOf G (takenList G (opened r p)) + degree G (vertexAt G r)
-  popped-sum = St .sum ∙ ap (degreesOf G) (vertices-popped highest) ∙ degrees-more G (takenList G (opened r p)) (vertexAt G r)
-
   popped-left : {m : ℕ} → Trimmed (G .size) w (s .taken - 1) (s .left) r m → (part w (2 * G .size) m ≡ leftRanks G (opened r p)) × (m ≤ r)
   unfolding leftRanks
   popped-left {m} T = ⊎-elim others only (lt-or-ge 0 (s .taken - 1))
@@ -220,7 +213,7 @@ module _ {G : Graph} {p : Position} {w : List ℕ} {s : State} (St : Stands G p 
           (λ a. let e = left-entry G p w s St (m - 1) (omega arith) in let d = T .last-kept a in omega arith) in
           let whole = sym (part-take w (2 * G .size) (s .left) m (omega arith)) ∙ ap (take m) (St .left) ∙ cut in
           let n = ap length whole ∙ passing-count r (leftOfPivot G p) in
-          let b = part-length w (2 * G .size) m (let x = St .left-bound in let y = St .bound in let z = St .room in omega arith) in
+          let b = part-length w (2 * G .size) m (let x = left-few St in let z = St .room in omega arith) in
           (whole ∙ sym f, omega (arith, count-le r (leftOfPivot G p)))
 
       only : s .taken - 1 ≤ 0 → (part w (2 * G .size) m ≡ leftRanks G (opened r p)) × (m ≤ r)
@@ -228,56 +221,43 @@ module _ {G : Graph} {p : Position} {w : List ℕ} {s : State} (St : Stands G p 
           let z = T .none (omega arith) in
           (ap (λ (j : ℕ). part w (2 * G .size) j) z ∙ sym (left-none G (opened r p) (long-opened highest) (popped-length ∙ omega arith)), omega arith)
 
-  -- with rank r and all after it opened
-  opened-stands : apart G (reopened p) ≡ false → {m z : ℕ} → Trimmed (G .size) w (s .taken - 1) (s .left) r m → z ≡ degreesOf G (takenList G (opened r p))
-      → Stands G (opened r p) w (record { decided = r; taken = s .taken - 1; left = m; sum = z; apart = false })
-  opened-stands calm {m} {z} T z-is =
-      let n = popped-length in
-      let h = within highest in
-      let low = highest .low in
-      let few = few-taken highest in
-      let d = highest-decided in
-      let left = popped-left T in
-      let count : s .taken - 1 + 1 ≡ s .taken = omega arith in
-      record {
-        long = long-opened highest;
-        room = St .room;
-        bound = omega arith;
-        taken-bound = omega arith;
-        left-bound = left .1;
-        bytes = λ i.
-            ⊎-elim
-            (λ l. let e = opened-below r p h i l in let b = St .bytes i in omega arith)
-            (λ l. let e = opened-above r p h i l in omega arith)
-            (lt-or-ge i r);
-        decided = λ i l e. St .decided i (omega arith) (sym (opened-below r p h i l) ∙ e);
-        still-open = opened-above r p h;
-        ranks = part-pop w 0 (s .taken - 1) r (takenRanks G (opened r p)) n (ap (λ (j : ℕ). part w 0 j) count ∙ St .ranks ∙ ranks-popped highest);
-        vertices =
-            part-pop w (G .size) (s .taken - 1) (vertexAt G r) (takenList G (opened r p)) (taken-length G (opened r p) ∙ n)
-            (ap (λ (j : ℕ). part w (G .size) j) count ∙ St .vertices ∙ vertices-popped highest);
-        left = left .0;
-        sum = z-is;
-        apart = sym (apart-popped highest (s .decided) d (St .bound) (St .decided) calm);
-      }
-
--- ---- its vertex v and the degree e of it, as they are read
-
-module _ {n : ℕ} {t ranks : List ℕ} (R : HoldsRanks n t ranks) {p : Position} {w : List ℕ} {s : State} (St : Stands (graphOf n t) p w s) (some : 0 < s .taken)
-    {r v : ℕ} (r-is : r ≡ getD w (s .taken - 1) 0) (v-is : v ≡ getD w (n + (s .taken - 1)) 0) where
-  pub last-vertex : v < n
-  last-vertex = let l = taken-low R (p, St) (s .taken - 1) (omega arith) in omega arith
-
-  module _ {e : ℕ} (e-is : e ≡ getD ranks (n + v) 0) where
-    pub last-sum : s .sum ≡ degreesOf (graphOf n t) (takenList (graphOf n t) (opened r p)) + e
+  -- its vertex v and the degree e of it, as they are read
+  module _ {v e : ℕ} (v-is : v ≡ getD w (G .size + (s .taken - 1)) 0) (e-is : e ≡ degree G v) where
+    -- the sum is that of the others and e
+    pub last-sum : s .sum ≡ degreesOf G (takenList G (opened r p)) + e
     last-sum =
-        let a = e-is ∙ R .degrees v last-vertex in
-        let b = v-is ∙ ap (λ (k : ℕ). getD w (k + (s .taken - 1)) 0) (sym (table-size n t)) ∙ top-vertex St some r-is in
-        let c = a ∙ ap (degree (graphOf n t)) b in
-        let d = popped-sum St some r-is in
-        omega arith
+        St .sum ∙ ap (degreesOf G) (vertices-popped highest) ∙ degrees-more G (takenList G (opened r p)) (vertexAt G r)
+        ∙ ap (λ (d : ℕ). degreesOf G (takenList G (opened r p)) + d) (sym (e-is ∙ ap (degree G) (v-is ∙ top-vertex)))
 
-    -- the state with it open
-    pub last-opened : apart (graphOf n t) (reopened p) ≡ false → {m : ℕ} → Trimmed n w (s .taken - 1) (s .left) r m
-        → Stands (graphOf n t) (opened r p) w (record { decided = r; taken = s .taken - 1; left = m; sum = s .sum - e; apart = false })
-    last-opened calm T = opened-stands St some r-is calm (rw (table-size n t) T) (let a = last-sum in omega arith)
+    -- the state with rank r and all after it opened
+    pub last-opened : apart G (reopened p) ≡ false → {m : ℕ} → Trimmed (G .size) w (s .taken - 1) (s .left) r m
+        → Stands G (opened r p) w (record { decided = r; taken = s .taken - 1; left = m; sum = s .sum - e; apart = false })
+    last-opened calm {m} T =
+        let n = popped-length in
+        let h = within highest in
+        let low = highest .low in
+        let few = few-taken highest in
+        let d = highest-decided in
+        let left = popped-left T in
+        let count : s .taken - 1 + 1 ≡ s .taken = omega arith in
+        record {
+          long = long-opened highest;
+          room = St .room;
+          bound = omega arith;
+          taken-bound = omega arith;
+          left-bound = left .1;
+          bytes = λ i.
+              ⊎-elim
+              (λ l. let e = opened-below r p h i l in let b = St .bytes i in omega arith)
+              (λ l. let e = opened-above r p h i l in omega arith)
+              (lt-or-ge i r);
+          decided = λ i l e. St .decided i (omega arith) (sym (opened-below r p h i l) ∙ e);
+          still-open = opened-above r p h;
+          ranks = part-pop w 0 (s .taken - 1) r (takenRanks G (opened r p)) n (ap (λ (j : ℕ). part w 0 j) count ∙ St .ranks ∙ ranks-popped highest);
+          vertices =
+              part-pop w (G .size) (s .taken - 1) (vertexAt G r) (takenList G (opened r p)) (taken-length G (opened r p) ∙ n)
+              (ap (λ (j : ℕ). part w (G .size) j) count ∙ St .vertices ∙ vertices-popped highest);
+          left = left .0;
+          sum = let a = last-sum in omega arith;
+          apart = sym (apart-popped highest (s .decided) d (St .bound) (St .decided) calm);
+        }

@@ -17,7 +17,6 @@ use Rattle.theory.proofs.basics.Refusals.{refuse-pass}
 use Rattle.theory.proofs.walk.Lawful.{lawful}
 use Rattle.theory.proofs.walk.Moves.{step-accepted}
 use Rattle.graph.specs.Table.{graphOf}
-use Rattle.graph.proofs.Table.{table-size}
 use Rattle.state.specs.State.{Stands}
 use Rattle.walk.specs.Walk.{Walking, Moved, Stepped}
 use Rattle.state.specs.declared.State.{State}
@@ -42,7 +41,7 @@ module _ {n : ℕ} {q : Settings} {t ranks : List ℕ} {p : Position} {w : List 
 
   pub decided-taken : finished p ≡ false → n ≤ s .decided → 0 < s .taken
   decided-taken e h =
-      let some : s .taken ≢ 0 = λ z. true≢false (sym (eq-eqb (s .taken) 0 z) ∙ sym (finished-decided (W .stands) (omega (arith, table-size n t))) ∙ e) in
+      let some : s .taken ≢ 0 = λ z. true≢false (sym (eq-eqb (s .taken) 0 z) ∙ sym (finished-decided (W .stands) h) ∙ e) in
       omega arith
 
   to-step : {y x : Position} {w₂ : List ℕ} {s₂ : State} → step (rules G q) p ≡ y → Moved G y x w₂ s₂ → Stepped G q p x w₂ s₂
@@ -50,15 +49,13 @@ module _ {n : ℕ} {q : Settings} {t ranks : List ℕ} {p : Position} {w : List 
       record {
         position = M .position ∙ sym e;
         stands = subst⁻¹ (λ (z : Position). Stands G z w₂ s₂) e (M .stands);
-        passes =
-            step-accepted (rules G q) n (lawful G (W .simple .loopless) q) p
-            (W .stands .long ∙ table-size n t) (W .passes);
+        passes = step-accepted (rules G q) n (lawful G (W .simple .loopless) q) p (W .stands .long) (W .passes);
       }
 
   -- a live position with an open rank
   pub stepped-down : {x : Position} {w₂ : List ℕ} {s₂ : State} → rules G q .dead p ≡ false → s .decided < n → Moved G (advance p) x w₂ s₂ → Stepped G q p x w₂ s₂
   stepped-down live h =
-      to-step (step-down (rules G q) p (ap₂ (λ (a b : Bool). not a && b) live (some-open (W .stands) (omega (arith, table-size n t)))))
+      to-step (step-down (rules G q) p (ap₂ (λ (a b : Bool). not a && b) live (some-open (W .stands) h)))
 
   -- a dead position, or one with all ranks decided
   pub stepped-dead : {x : Position} {w₂ : List ℕ} {s₂ : State} → rules G q .dead p ≡ true → Moved G (retreat p) x w₂ s₂ → Stepped G q p x w₂ s₂
@@ -68,4 +65,4 @@ module _ {n : ℕ} {q : Settings} {t ranks : List ℕ} {p : Position} {w : List 
   stepped-decided h =
       to-step
       (step-up (rules G q) p
-      (ap (λ (b : Bool). not (rules G q .dead p) && b) (no-open (W .stands) (omega (arith, table-size n t))) ∙ and-false (not (rules G q .dead p))))
+      (ap (λ (b : Bool). not (rules G q .dead p) && b) (no-open (W .stands) h) ∙ and-false (not (rules G q .dead p))))

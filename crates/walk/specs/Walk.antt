@@ -1,6 +1,6 @@
 -- What the functions that walk leave behind: the state as the next rank is decided, and the marks of the position.
 -- Assumes nothing.
-use Prim.Native.Nat.{ℕ, _+_, _-_, _*_, _≤_, _<_}
+use Prim.Native.Nat.{ℕ, _+_, _-_, _≤_, _<_}
 use mathlib.Core.Path.{_≡_}
 use mathlib.Core.List.{List}
 use lib.ListN.{getD}
@@ -10,6 +10,7 @@ use Rattle.model.specs.Meaning.{Simple}
 use Rattle.model.specs.Walk.{Position, step}
 use Rattle.model.specs.Listing.{rules}
 use Rattle.model.specs.Calls.{refusePosition}
+use Rattle.theory.specs.Parts.{leftRanksAt}
 use Rattle.graph.specs.Table.{graphOf}
 use Rattle.ranks.specs.Ranks.{HoldsRanks}
 use Rattle.state.specs.State.{Stands}
@@ -24,8 +25,8 @@ Passes G q p = refusePosition (rules G q) p ≡ 0
 pub record Trimmed (n : ℕ) (w : List ℕ) (k m r kept : ℕ) : Type 0 where
   pub none : k ≡ 0 → kept ≡ 0
   pub fewer : kept ≤ m
-  pub dropped : 0 < k → (j : ℕ) → kept ≤ j → j < m → r ≤ getD w (2 * n + j) 0
-  pub last-kept : 0 < kept → getD w (2 * n + (kept - 1)) 0 < r
+  pub dropped : 0 < k → (j : ℕ) → kept ≤ j → j < m → r ≤ getD w (leftRanksAt n + j) 0
+  pub last-kept : 0 < kept → getD w (leftRanksAt n + (kept - 1)) 0 < r
 
 -- the position after a move, and the state and the work slice for it
 pub record Moved (G : Graph) (q p₂ : Position) (w₂ : List ℕ) (s₂ : State) : Type 0 where

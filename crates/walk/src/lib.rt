@@ -2,11 +2,12 @@
 // and at nothing else of the position.
 ghost use mathlib.Core.Path.{_≡_};
 ghost use mathlib.Core.Bool.{false};
-ghost use Prim.Native.Nat.{_+_, _*_, _≤_, _<_};
+ghost use Prim.Native.Nat.{_+_, _≤_, _<_};
 ghost use lib.ListN.{length};
 ghost use Rattle.model.specs.Walk.{finished, advance, retreat};
 ghost use Rattle.model.specs.Listing.{apart};
 ghost use Rattle.model.specs.Calls.{reopened};
+ghost use Rattle.theory.specs.Parts.{leftRanksAt};
 ghost use Rattle.graph.specs.Table.{graphOf};
 ghost use Rattle.ranks.specs.Ranks.{HoldsRanks};
 ghost use Rattle.isolation.specs.Numbers.{settingsOf, FactorFits};
@@ -15,6 +16,7 @@ ghost use Rattle.state.specs.NextRank.{RanksOpened};
 ghost use Rattle.walk.specs.Walk.{Trimmed, Moved, Walking, Stepped};
 use graph::entry_at;
 use isolation::Settings;
+use ranks::degree_at;
 use state::State;
 use state::is_dead;
 use state::push_left;
@@ -52,7 +54,7 @@ fn open_ranks(position: &mut [u8], a: usize, e: usize)
 // How many of the first m entries of part 2 stay when rank r and all after it open and k ranks are taken before it: none where k is 0, since then
 // there is no pivot. Reads those that do not stay, and one more.
 fn trim(work: &[u16], n: usize, k: usize, m: usize, r: usize) -> usize
-    requires { ⌜ 2 * n + m ≤ length (now work) ⌝ }
+    requires { ⌜ leftRanksAt n + m ≤ length (now work) ⌝ }
     ensures { λ kept. ⌜ Trimmed n (now (work .entry)) k m r kept ⌝ }
 {
     if k == 0 {
@@ -86,7 +88,7 @@ pub fn back(
     let k = s.taken - 1;
     let r = entry_at(work, k);
     let last = entry_at(work, n + k);
-    let last_degree = entry_at(ranks, n + last);
+    let last_degree = degree_at(ranks, n, last);
     let left = trim(work, n, k, s.left, r);
     let sum = s.sum - last_degree;
     let rest = State {

@@ -1,9 +1,7 @@
 -- `emit::emit` meets its contract, way by way.
 -- Assumes nothing.
-use mathlib.Core.Path.{refl}
 use native.Mathlib.Omega.{arith}
 use borrow.Author.Tests.{not-true, not-false}
-use Rattle.state.proofs.StandsFor.{enough}
 use Rattle.qualify.proofs.Verdicts.{taken-few}
 use Rattle.emit.proofs.Output.{emitted-none, emitted-full, emitted-put}
 use borrow.Author.Needs.{needs}
@@ -38,7 +36,7 @@ put-group-requires c κs =
     let p = q .before .before .before .before .before .before .pre .0 in
     let k = taken-few p in
     let m = p .ranked .fits .small in
-    let r = enough (p .ranked) (p .stands) in
+    let r = p .stands .1 .room in
     let l = q .qualifies .ensures .length-kept in
     (omega (arith, c .before .before .if2 .left, e .record-length .ensures), omega arith, omega arith)
 

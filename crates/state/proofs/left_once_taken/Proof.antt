@@ -10,9 +10,8 @@ use Rattle.theory.specs.Parts.{Filled}
 use Rattle.theory.proofs.basics.Parts.{filled-none, filled-push, filled-pass, filled-same}
 use Rattle.theory.proofs.basics.Passing.{passing-none, passing-hit, passing-miss}
 use Rattle.graph.specs.Table.{graphOf}
-use Rattle.ranks.proofs.Ranks.{entry-below, entries-adjacent}
-use Rattle.state.proofs.StandsFor.{enough}
-use Rattle.state.proofs.RankPushed.{left-stays, left-found}
+use Rattle.ranks.proofs.Ranks.{ranks-room, vertex-read}
+use Rattle.state.proofs.RankPushed.{adjacent-by, left-stays, left-found}
 use borrow.Author.Needs.{needs}
 use Rattle.state.proofs.left_once_taken.Statement.{statement}
 use Rattle.state.proofs.left_once_taken.Tie as tie
@@ -27,21 +26,26 @@ abbrev μ-loop : tie.MeasureT-loop
 returns : tie.Need-returns Inv-loop μ-loop
 returns c =
     let q = c .before .before .before .before .pre in
-    left-stays (q .0) (q .1) (q .2) (omega arith)
+    left-stays (q .2) (q .1 .1 .left-bound) (omega arith)
 
 loop-holds : tie.Need-loop-holds Inv-loop μ-loop
 loop-holds c = (omega arith, omega arith, filled-none _ _ _ _ (passing-none _))
 
+vertex-at-requires : tie.Need-vertex-at-requires Inv-loop μ-loop
+vertex-at-requires c κs = let q = c .before .before .before .before .pre in (ranks-room (q .0), q .2)
+
+vertex-at-requires-2 : tie.Need-vertex-at-requires-2 Inv-loop μ-loop
+vertex-at-requires-2 c κs = let q = c .before .before .before .before .before .before .before .pre in (ranks-room (q .0), omega (arith, q .2))
+
 joined-requires : tie.Need-joined-requires Inv-loop μ-loop
 joined-requires c κs =
     let q = c .before .before .before .before .before .before .before .before .pre in
-    let i = c .before .before .loop .i in
-    (q .0 .fits, omega (arith, entry-below (q .0) _ (q .2), c .before .before .before .entry-at .ensures), omega (arith, entry-below (q .0) i (omega arith), c .entry-at2 .ensures))
+    (q .0 .fits, vertex-read (q .0) (c .before .before .before .vertex-at .ensures) .1, vertex-read (q .0) (c .vertex-at2 .ensures) .1)
 
 slice-write-work : tie.Need-slice-write-work Inv-loop μ-loop
 slice-write-work c =
     let q = c .before .before .before .before .before .before .before .before .before .before .pre in
-    omega (arith, q .2, enough (q .0) (q .1), c .before .before .before .before .loop .inv .2 .kept .length-kept)
+    omega (arith, q .2, q .1 .1 .room, c .before .before .before .before .loop .inv .2 .kept .length-kept)
 
 loop-again : tie.Need-loop-again Inv-loop μ-loop
 loop-again c =
@@ -52,9 +56,9 @@ loop-again c =
     let i = o .loop .i in
     let inv = o .loop .inv in
     let p = adjacent (graphOf n (b .args .table .now)) (b .args .s .decided) in
-    let a = sym (entries-adjacent (q .0) (q .2) (omega arith) (o .before .entry-at .ensures) (c .before .before .entry-at2 .ensures)) ∙ sym (c .before .joined .ensures) in
+    let a = sym (adjacent-by _ (b .args .s .decided) i (vertex-read (q .0) (o .before .vertex-at .ensures) .0) (vertex-read (q .0) (c .before .before .vertex-at2 .ensures) .0)) ∙ sym (c .before .joined .ensures) in
     ⊎-elim
-    (λ y. (omega arith, omega arith, filled-same (y .1) (y .2) (filled-push (2 * n) (3 * n) (b .args .work .now) (inv .2) i _ (passing-hit p i (a ∙ y .0 .taken)) (omega arith) (omega (arith, enough (q .0) (q .1))))))
+    (λ y. (omega arith, omega arith, filled-same (y .1) (y .2) (filled-push (2 * n) (3 * n) (b .args .work .now) (inv .2) i _ (passing-hit p i (a ∙ y .0 .taken)) (omega arith) (omega (arith, q .1 .1 .room)))))
     (λ y. (omega arith, omega arith, filled-same (y .1) (y .2) (filled-pass _ _ _ (inv .2) _ (passing-miss p i (a ∙ y .0 .left)))))
     (c .if2 .came)
 
@@ -65,10 +69,10 @@ returns-2 : tie.Need-returns-2 Inv-loop μ-loop
 returns-2 c =
     let q = c .before .before .before .before .before .before .before .pre in
     let l = c .before .loop in
-    left-found (q .0) (q .1) (q .2) (omega arith) (omega arith) (l .inv .1) (l .inv .2)
+    left-found (q .2) (omega arith) (omega arith) (l .inv .1) (l .inv .2)
 
 pub left-once-taken-spec : {M : Type 1} → statement M
 left-once-taken-spec =
     tie.close
-    (tie.spec Inv-loop μ-loop returns (λ c κs. search needs) loop-holds (λ c κs. search needs) joined-requires (λ c. search needs) (λ c. search needs)
+    (tie.spec Inv-loop μ-loop returns vertex-at-requires loop-holds vertex-at-requires-2 joined-requires (λ c. search needs) (λ c. search needs)
     (λ c. search needs) (λ c. search needs) slice-write-work (λ c. search needs) (λ c. search needs) (λ c. search needs) loop-again same-length returns-2)

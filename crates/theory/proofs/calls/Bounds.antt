@@ -10,8 +10,6 @@ use lib.Seq.{drop-at}
 use lib.Dec.{ltb}
 use borrow.Author.Tests.{ltb-false}
 use Rattle.model.specs.Below.{bit}
-use Rattle.model.specs.Graph.{byTable}
-use Rattle.model.specs.Groups.{Settings}
 use Rattle.model.specs.Walk.{Position, Rules, Page, halt, onward, has, finished, advance, retreat, step, found, due, page, stoppedFinished, stoppedFull, stoppedSpent}
 use Rattle.model.specs.Listing.{rules}
 use Rattle.model.specs.Calls.{Call, refusePage, replyOf, replyTo}

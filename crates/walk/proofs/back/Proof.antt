@@ -1,11 +1,13 @@
 -- `walk::back` meets its contract: the state stands for the position with the highest taken rank opened, and then for that rank left.
 -- Assumes nothing.
+use Prim.Native.Nat.{_-_}
 use mathlib.Core.Path.{_∙_}
 use native.Mathlib.Omega.{arith}
 use lib.ListN.{length-set}
-use Rattle.graph.proofs.Table.{table-size}
+use Rattle.ranks.proofs.Ranks.{ranks-room, degree-read}
+use Rattle.state.proofs.StandsFor.{vertex-low, left-few}
 use Rattle.state.proofs.Opened.{opened}
-use Rattle.walk.proofs.HighestTaken.{highest, highest-decided, retreat-decides, retreat-exit, last-vertex, last-sum, last-opened}
+use Rattle.walk.proofs.HighestTaken.{highest, highest-decided, retreat-decides, retreat-exit, last-sum, last-opened}
 use borrow.Author.Needs.{needs}
 use Rattle.walk.proofs.back.Statement.{statement}
 use Rattle.walk.proofs.back.Tie as tie
@@ -13,27 +15,23 @@ use Rattle.walk.proofs.back.Tie as tie
 entry-at-requires-2 : tie.Need-entry-at-requires-2
 entry-at-requires-2 c κs =
     let b = c .before .before .before .before .before .before .before .before in
-    omega (arith, b .pre .1 .room, b .pre .1 .taken-bound, b .pre .1 .bound, b .pre .2, table-size (b .args .n) (b .args .table .now))
+    omega (arith, b .pre .1 .room, b .pre .1 .taken-bound, b .pre .1 .bound, b .pre .2)
 
-add-entry-at-2 : tie.Need-add-entry-at-2
-add-entry-at-2 c =
-    let q = c .before .before .before .before .before .before .before .before .before .pre in
-    omega (arith, last-vertex (q .0) (q .1) (q .2) (c .before .before .entry-at .ensures) (c .entry-at2 .ensures), q .0 .fits .small)
-
-entry-at-requires-3 : tie.Need-entry-at-requires-3
-entry-at-requires-3 c κs =
-    let q = c .before .before .before .before .before .before .before .before .before .pre in
-    omega (arith, last-vertex (q .0) (q .1) (q .2) (c .before .before .entry-at .ensures) (c .entry-at2 .ensures), q .0 .room)
+degree-at-requires : tie.Need-degree-at-requires
+degree-at-requires c κs =
+    let b = c .before .before .before .before .before .before .before .before .before in
+    let q = b .pre in
+    (ranks-room (q .0), omega (arith, vertex-low (q .1) (b .args .s .taken - 1) (omega (arith, q .2)), c .entry-at2 .ensures))
 
 trim-requires : tie.Need-trim-requires
 trim-requires c κs =
     let b = c .before .before .before .before .before .before .before .before .before .before .before in
-    omega (arith, b .pre .1 .room, b .pre .1 .left-bound, b .pre .1 .bound, table-size (b .args .n) (b .args .table .now))
+    omega (arith, b .pre .1 .room, left-few (b .pre .1))
 
 sub-sum : tie.Need-sub-sum
 sub-sum c =
     let q = c .before .before .before .before .before .before .before .before .before .before .before .before .before .pre in
-    omega (arith, last-sum (q .0) (q .1) (q .2) (c .before .before .before .before .before .before .entry-at .ensures) (c .before .before .before .before .entry-at2 .ensures) (c .before .before .before .entry-at3 .ensures))
+    omega (arith, last-sum (q .1) (q .2) (c .before .before .before .before .before .before .entry-at .ensures) (c .before .before .before .before .entry-at2 .ensures) (degree-read (q .0) (c .before .before .before .degree-at .ensures) .0))
 
 add-next : tie.Need-add-next
 add-next c =
@@ -56,8 +54,8 @@ push-left-requires c κs =
     let b = c .before .before .before .before .before .before .before .before .before .before .before .before .before .before .before .before .before .before in
     let q = b .pre in
     let r = c .before .before .before .before .before .before .before .before .before .before .before .entry-at in
-    let rest = last-opened (q .0) (q .1) (q .2) (r .ensures) (c .before .before .before .before .before .before .before .before .before .entry-at2 .ensures) (c .before .before .before .before .before .before .before .before .entry-at3 .ensures) (q .3) (c .before .before .before .before .before .before .trim .ensures) in
-    (q .0, (opened (r .result) (b .args .position .now), rest), omega (arith, highest-decided (q .1) (q .2) (r .ensures), q .1 .bound, table-size (b .args .n) (b .args .table .now)))
+    let rest = last-opened (q .1) (q .2) (r .ensures) (c .before .before .before .before .before .before .before .before .before .entry-at2 .ensures) (degree-read (q .0) (c .before .before .before .before .before .before .before .before .degree-at .ensures) .0) (q .3) (c .before .before .before .before .before .before .trim .ensures) in
+    (q .0, (opened (r .result) (b .args .position .now), rest), omega (arith, highest-decided (q .1) (q .2) (r .ensures), q .1 .bound))
 
 same-length : tie.Need-same-length
 same-length c =
@@ -69,7 +67,7 @@ returns c =
     let q = b .pre in
     let r = c .before .before .before .before .before .before .before .before .before .before .before .before .before .before .entry-at in
     let H = highest (q .1) (q .2) (r .ensures) in
-    let rest = last-opened (q .0) (q .1) (q .2) (r .ensures) (c .before .before .before .before .before .before .before .before .before .before .before .before .entry-at2 .ensures) (c .before .before .before .before .before .before .before .before .before .before .before .entry-at3 .ensures) (q .3) (c .before .before .before .before .before .before .before .before .before .trim .ensures) in
+    let rest = last-opened (q .1) (q .2) (r .ensures) (c .before .before .before .before .before .before .before .before .before .before .before .before .entry-at2 .ensures) (degree-read (q .0) (c .before .before .before .before .before .before .before .before .before .before .before .degree-at .ensures) .0) (q .3) (c .before .before .before .before .before .before .before .before .before .trim .ensures) in
     record {
       position = retreat-exit H (q .1 .still-open) (c .before .before .before .before .before .before .open-ranks .ensures);
       stands = c .before .before .push-left .ensures .stands _ _ rest (retreat-decides H);
@@ -78,5 +76,5 @@ returns c =
 pub back-spec : {M : Type 1} → statement M
 back-spec =
     tie.close
-    (tie.spec (λ c. search needs) (λ c κs. search needs) (λ c. search needs) entry-at-requires-2 add-entry-at-2 entry-at-requires-3 trim-requires sub-sum
+    (tie.spec (λ c. search needs) (λ c κs. search needs) (λ c. search needs) entry-at-requires-2 degree-at-requires trim-requires sub-sum
     add-next slice-write-position open-ranks-requires push-left-requires same-length (λ c. search needs) returns)

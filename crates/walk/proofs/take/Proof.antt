@@ -6,7 +6,6 @@ use native.Mathlib.Omega.{arith}
 use lib.ListN.{length}
 use Rattle.model.specs.Walk.{advance}
 use Rattle.theory.proofs.walk.Moves.{advance-is}
-use Rattle.graph.proofs.Table.{table-size}
 use Rattle.state.specs.NextRank.{Decides}
 use Rattle.state.proofs.Opened.{set-decides}
 use borrow.Author.Needs.{needs}
@@ -16,7 +15,7 @@ use Rattle.walk.proofs.take.Tie as tie
 slice-write-position : tie.Need-slice-write-position
 slice-write-position c =
     let b = c .before .before .before .before in
-    omega (arith, b .pre .2, b .pre .1 .long, table-size (b .args .n) (b .args .table .now))
+    omega (arith, b .pre .2, b .pre .1 .long)
 
 push-taken-requires : tie.Need-push-taken-requires
 push-taken-requires c κs = search needs
@@ -33,7 +32,7 @@ returns c =
     let p = b .args .position .now in
     let s = b .args .s in
     let St = b .pre .1 in
-    let h : s .decided < length p = omega (arith, b .pre .2, St .long, table-size (b .args .n) (b .args .table .now)) in
+    let h : s .decided < length p = omega (arith, b .pre .2, St .long) in
     let e = advance-is p (s .decided) h (St .decided) (St .still-open (s .decided) (omega arith)) in
     record {
       position = sym e;
