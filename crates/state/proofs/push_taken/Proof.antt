@@ -15,7 +15,7 @@ vertex-at-requires c κs = let q = c .before .before .before .pre in (ranks-room
 degree-at-requires : tie.Need-degree-at-requires
 degree-at-requires c κs =
     let q = c .before .before .before .before .pre in
-    (ranks-room (q .0), vertex-read (q .0) (c .vertex-at .ensures) .1)
+    (ranks-room (q .0), omega (arith, q .2, vertex-read (q .0) (c .vertex-at .ensures) .1))
 
 misses-one-requires : tie.Need-misses-one-requires
 misses-one-requires c κs =
