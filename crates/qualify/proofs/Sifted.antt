@@ -15,6 +15,7 @@ use Rattle.theory.proofs.basics.Parts.{part-length, part-at, same-members, fill
 use Rattle.theory.proofs.basics.Passing.{map-at}
 use Rattle.graph.specs.Table.{graphOf}
 use Rattle.ranks.specs.Ranks.{ReadsVertex}
+use Rattle.ranks.proofs.Ranks.{vertex-read}
 use Rattle.qualify.specs.Qualify.{joinedOf, Sifts, Sifted}
 
 -- a vertex at the end of a list is among those joined to all where it is joined to all
@@ -77,7 +78,7 @@ module _ {n : ℕ} {t ranks w₀ : List ℕ} {taken left : ℕ} (a : Sifts n t r
       -- and v is its vertex
       module _ {v : ℕ} (vertex : ReadsVertex n ranks r v) where
         pub vertex-is : (v ≡ vertexAt (graphOf n t) r) × (v < n)
-        vertex-is = vertex .vertex (graphOf n t) refl (a .ranked .order)
+        vertex-is = vertex-read (a .ranked) vertex
 
         vertex-listed : v ≡ getD lefts j 0
         vertex-listed =

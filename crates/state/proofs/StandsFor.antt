@@ -55,7 +55,7 @@ module _ {G : Graph} {p : Position} {w : List ℕ} {s : State} (St : Stands G p 
       let k = taken-count G p w s St in
       vertex-entry G p w s St j h ∙ ap (λ (l : List ℕ). getD l j 0) (taken-list G p) ∙ map-at (vertexAt G) (takenRanks G p) j (omega arith)
 
-  -- they are vertices
+  -- its entries are vertices, and so is the first
   pub vertex-low : (j : ℕ) → j < s .taken → getD w (G .size + j) 0 < G .size
   vertex-low j h =
       let k = taken-count G p w s St in
@@ -64,7 +64,6 @@ module _ {G : Graph} {p : Position} {w : List ℕ} {s : State} (St : Stands G p 
       let e = vertex-of-rank j h in
       omega arith
 
-  -- the pivot's comes first
   pub first-low : 0 < s .taken → getD w (G .size) 0 < G .size
   first-low h =
       let a = vertex-low 0 h in
@@ -190,7 +189,7 @@ module _ {G : Graph} {p : Position} {w : List ℕ} {s : State} (St : Stands G p 
   unfolding dead
   dead-by-left q h e = rw (sym (St .apart) ∙ e, has-taken h, left-is h)
 
--- ---- the same for the graph of a table
+-- ---- for the graph of a table
 
 -- the sum of the degrees of the taken vertices is small
 pub sum-small : {n : ℕ} {t ranks : List ℕ} → HoldsRanks n t ranks → {p : Position} {w : List ℕ} {s : State} → Stands (graphOf n t) p w s → s .sum ≤ 1048576
