@@ -18,7 +18,7 @@ use Rattle.isolation.specs.declared.Settings.{Settings}
 use Rattle.isolation.specs.declared.Tally.{Tally}
 use Rattle.isolation.specs.Numbers.{findOf, beatenOf}
 use Rattle.theory.specs.Parts.{part}
-use Rattle.larger.specs.Search.{Lent, Room, Searched, Posed, Tested}
+use Rattle.larger.specs.Search.{SearchFits, Room, Searched, Posed, Tested}
 use Rattle.theory.proofs.basics.Parts.{part-length, part-at, state-none}
 use Rattle.graph.specs.Table.{graphOf}
 
@@ -63,7 +63,7 @@ module _ (G : Graph) (s : Settings) (y : Tally) (vs : List ℕ) where
       go zero (suc m) e d = refl
       go (suc k) notion e d = absurd (omega arith)
 
-module _ {n : ℕ} {t ranks w : List ℕ} {s : Settings} {y : Tally} {m : ℕ} (lent : Lent n t ranks w) (posed : Posed n t w s y m) where
+module _ {n : ℕ} {t ranks w : List ℕ} {s : Settings} {y : Tally} {m : ℕ} (lent : SearchFits n t ranks w) (posed : Posed n t w s y m) where
   all-candidates : length (part w (3 * n) m) ≡ m
   all-candidates = let l = lent .parts in let f = posed .room in part-length w (3 * n) m (omega arith)
 

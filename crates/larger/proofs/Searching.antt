@@ -18,7 +18,7 @@ use Rattle.isolation.specs.declared.Settings.{Settings}
 use Rattle.isolation.specs.declared.Tally.{Tally}
 use Rattle.isolation.specs.Numbers.{withMember, isolatedOf, hopelessOf, findOf}
 use Rattle.theory.specs.Parts.{part, membersAt, candidatesAt, SamePart, HoldsVertices}
-use Rattle.larger.specs.Search.{Lent, Room, SearchKept, Searched}
+use Rattle.larger.specs.Search.{SearchFits, Room, SearchKept, Searched}
 use Rattle.theory.proofs.basics.Parts.{part-length, part-at, part-same, part-push, state-none, state-set, state-then}
 use Rattle.graph.specs.Table.{graphOf}
 
@@ -31,13 +31,13 @@ candidatesIn n w m = part w (candidatesAt n) m
 
 -- before candidate j: what the search says from i on it says from j on, and what it keeps is as it was
 pub record At (n : ℕ) (t ranks w₀ : List ℕ) (s : Settings) (y : Tally) (base i m : ℕ) (w : List ℕ) (j : ℕ) : Type 0 where
-  pub lent : Lent n t ranks w₀
+  pub lent : SearchFits n t ranks w₀
   pub room : Room n w₀ s y base i m
   pub from : i ≤ j
   pub kept : SearchKept n (y .members) m w₀ w
   pub same : findOf (graphOf n t) s (addedIn n w₀ y base) y (drop i (candidatesIn n w₀ m)) ≡ findOf (graphOf n t) s (addedIn n w₀ y base) y (drop j (candidatesIn n w₀ m))
 
-pub at-start : {n : ℕ} {t ranks w₀ : List ℕ} {s : Settings} {y : Tally} {base i m : ℕ} → Lent n t ranks w₀ → Room n w₀ s y base i m → At n t ranks w₀ s y base i m w₀ i
+pub at-start : {n : ℕ} {t ranks w₀ : List ℕ} {s : Settings} {y : Tally} {base i m : ℕ} → SearchFits n t ranks w₀ → Room n w₀ s y base i m → At n t ranks w₀ s y base i m w₀ i
 at-start lent room = record { lent = lent; room = room; from = omega arith; kept = record { state = state-none; candidates = λ e h. refl }; same = refl }
 
 module _ {n : ℕ} {t ranks w₀ : List ℕ} {s : Settings} {y : Tally} {base i m : ℕ} {w : List ℕ} {j : ℕ} (at : At n t ranks w₀ s y base i m w j) where
@@ -167,7 +167,7 @@ module _ {n : ℕ} {t ranks w₀ : List ℕ} {s : Settings} {y : Tally} {base i 
           candidates = λ e h. getD-set-other w (n + y .members) (3 * n + e) v 0 (λ q. omega arith) ∙ at .kept .candidates e h;
         }
 
-    pub lent-next : Lent n t ranks taken
+    pub lent-next : SearchFits n t ranks taken
     lent-next =
         let parts = at .lent .parts in
         let l = taken-kept .state .length-kept in

@@ -16,7 +16,7 @@ use Rattle.isolation.specs.Numbers.{FactorFits, findOf, beatenOf, TallyOf}
 use Rattle.theory.specs.Parts.{part, membersAt, candidatesAt, SamePart, StateKept, HoldsVertices}
 
 -- the table holds a graph of n vertices, the ranks its degrees, and the work slice has the parts 0 to 3
-pub record Lent (n : ℕ) (t ranks w : List ℕ) : Type 0 where
+pub record SearchFits (n : ℕ) (t ranks w : List ℕ) : Type 0 where
   pub table : TableFits n t
   pub ranks-fit : RanksFit n ranks
   pub degrees : HoldsDegrees n (graphOf n t) ranks

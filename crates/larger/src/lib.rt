@@ -5,7 +5,7 @@ ghost use lib.ListN.{length};
 ghost use Rattle.theory.specs.Search.{joinedAll};
 ghost use Rattle.graph.specs.Table.{TableFits, graphOf};
 ghost use Rattle.theory.specs.Parts.{part, HoldsVertices};
-ghost use Rattle.larger.specs.Search.{Lent, Room, Searched, Posed, Tested};
+ghost use Rattle.larger.specs.Search.{SearchFits, Room, Searched, Posed, Tested};
 use graph::entry_at;
 use isolation::Settings;
 use isolation::Tally;
@@ -47,7 +47,7 @@ fn search(
     i: usize,
     m: usize,
 ) -> bool
-    requires { ⌜ Lent n (now table) (now ranks) (now work) × Room n (now work) s y base i m ⌝ }
+    requires { ⌜ SearchFits n (now table) (now ranks) (now work) × Room n (now work) s y base i m ⌝ }
     ensures { λ r. ⌜ Searched n (now (table .entry)) (now (work .entry)) (now (work .exit)) s y base i m r ⌝ }
 {
     let first = n + base;
@@ -87,7 +87,7 @@ pub fn beaten(
     y: Tally,
     m: usize,
 ) -> bool
-    requires { ⌜ Lent n (now table) (now ranks) (now work) × Posed n (now table) (now work) s y m ⌝ }
+    requires { ⌜ SearchFits n (now table) (now ranks) (now work) × Posed n (now table) (now work) s y m ⌝ }
     ensures { λ r. ⌜ Tested n (now (table .entry)) (now (work .entry)) (now (work .exit)) s y m r ⌝ }
 {
     if s.kind != 0 {

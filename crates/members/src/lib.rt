@@ -1,6 +1,5 @@
 // The members of a set that is lent as bytes: listed in the work slice, whether they are pairwise joined, their numbers and their common neighbours.
 ghost use mathlib.Core.Path.{_≡_};
-ghost use Prim.Native.Nat.{_+_, _*_, _≤_};
 ghost use lib.ListN.{length};
 ghost use Rattle.model.specs.Below.{passing};
 ghost use Rattle.model.specs.Listing.{is};

@@ -22,7 +22,7 @@ use Rattle.state.specs.declared.State.{State}
 use Rattle.state.specs.State.{Stands}
 use Rattle.walk.specs.Walk.{Walking}
 use Rattle.position.specs.declared.Opening.{Opening}
-use Rattle.position.specs.Position.{Judged}
+use Rattle.position.specs.Position.{PositionJudged}
 use Rattle.rounds.specs.declared.PageAnswer.{PageAnswer}
 use Rattle.rounds.specs.Answer.{PageReplies, refused}
 use Rattle.page.specs.Call.{PageCalled}
@@ -50,7 +50,7 @@ module _ {n : ℕ} {t : List ℕ} {q : isolation.Settings} {p : Position} {work 
   judged-input d f = record { refusal = f ∙ e ∙ sym (else-found (λ z. d (e ∙ z)) _); accepted = λ z. absurd (d (sym f ∙ z)) }
 
   -- by the position where none of these holds
-  pub judged-position : r ≡ 0 → HoldsRanks n t ranks → Judged (graphOf n t) q p memory o → PageJudged n t q p work ranks memory o
+  pub judged-position : r ≡ 0 → HoldsRanks n t ranks → PositionJudged (graphOf n t) q p memory o → PageJudged n t q p work ranks memory o
   unfolding refusePage
   judged-position z h j = record { refusal = whole; accepted = λ y. record { passes = sym whole ∙ y; ranked = h; stands = j .stands y } }
     where

@@ -12,7 +12,7 @@ use Rattle.model.specs.Calls.{refuse, over, gap, reopened, refusePosition}
 use Rattle.isolation.specs.declared.Settings.{Settings}
 use Rattle.isolation.specs.Numbers.{settingsOf}
 use Rattle.position.specs.declared.Opening.{Opening}
-use Rattle.position.specs.Position.{Judged}
+use Rattle.position.specs.Position.{PositionJudged}
 
 -- by the outcome of each test
 pub position-by : (R : Rules) (p : Position) {a b d : Bool} → over 2 p ≡ a → gap p ≡ b → R .dead (reopened p) ≡ d
@@ -22,5 +22,5 @@ position-by R p x y z = rw (x, y, z)
 
 -- a refused position
 pub judged-refused : (G : Graph) (q : Settings) (p : Position) (w : List ℕ) {o : Opening} {k : ℕ} → o .refusal ≡ k → 0 < k
-    → k ≡ refusePosition (rules G (settingsOf q)) p → Judged G q p w o
+    → k ≡ refusePosition (rules G (settingsOf q)) p → PositionJudged G q p w o
 judged-refused G q p w e h f = record { refusal = e ∙ f; stands = λ z. absurd (omega arith) }

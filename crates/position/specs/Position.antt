@@ -13,6 +13,6 @@ use Rattle.state.specs.State.{Stands}
 use Rattle.position.specs.declared.Opening.{Opening}
 
 -- the refusal number is that of the position, and where it is 0 the state and the memory stand for the position with its last decided rank opened
-pub record Judged (G : Graph) (q : Settings) (p : Position) (memory : List ℕ) (o : Opening) : Type 0 where
+pub record PositionJudged (G : Graph) (q : Settings) (p : Position) (memory : List ℕ) (o : Opening) : Type 0 where
   pub refusal : o .refusal ≡ refusePosition (rules G (settingsOf q)) p
   pub stands : o .refusal ≡ 0 → Stands G (reopened p) memory (o .state)

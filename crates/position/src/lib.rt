@@ -9,7 +9,7 @@ ghost use Rattle.model.specs.Calls.{gap};
 ghost use Rattle.graph.specs.Table.{graphOf};
 ghost use Rattle.ranks.specs.Ranks.{HoldsRanks};
 ghost use Rattle.isolation.specs.Numbers.{FactorFits};
-ghost use Rattle.position.specs.Position.{Judged};
+ghost use Rattle.position.specs.Position.{PositionJudged};
 use graph::any_over;
 use isolation::Settings;
 use isolation::less;
@@ -79,7 +79,7 @@ pub fn position_refusal(
     memory: &mut [u16],
 ) -> Opening
     requires { ⌜ HoldsRanks n (now table) (now ranks) × FactorFits q × (length (now position) ≡ n) × (8 * n ≤ length (now memory)) ⌝ }
-    ensures { λ r. ⌜ Judged (graphOf n (now (table .entry))) q (now (position .entry)) (now (memory .exit)) r ⌝ }
+    ensures { λ r. ⌜ PositionJudged (graphOf n (now (table .entry))) q (now (position .entry)) (now (memory .exit)) r ⌝ }
 {
     if any_over(2, position) {
         return refused(21);

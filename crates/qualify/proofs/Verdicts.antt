@@ -23,7 +23,7 @@ use Rattle.isolation.specs.declared.Settings.{Settings}
 use Rattle.isolation.specs.declared.Tally.{Tally}
 use Rattle.isolation.specs.Numbers.{settingsOf, isolatedOf, beatenOf, TallyOf}
 use Rattle.theory.specs.Parts.{part, StateKept}
-use Rattle.larger.specs.Search.{Lent, Posed, Tested}
+use Rattle.larger.specs.Search.{SearchFits, Posed, Tested}
 use Rattle.theory.proofs.basics.Parts.{state-then}
 use Rattle.graph.specs.Table.{graphOf}
 use Rattle.state.specs.declared.State.{State}
@@ -184,7 +184,7 @@ module _ {n : ℕ} {t ranks w : List ℕ} {q : Settings} {s : State} (a : Asks n
         unfolding candidatesOf
         candidates-are p h = f .found .listed ∙ ap₂ (λ (us vs : List ℕ). joinedOf G us (map (vertexAt G) vs)) (h .vertices) (h .left)
 
-        pub lent : Lent n t ranks w₁
+        pub lent : SearchFits n t ranks w₁
         lent =
             let r = h₀ .room in
             let k = f .found .kept .length-kept in

@@ -28,7 +28,7 @@ use Rattle.isolation.specs.declared.Tally.{Tally}
 use Rattle.isolation.specs.Numbers.{settingsOf, Small, isolatedOf, beatenOf, TallyOf}
 use Rattle.input.proofs.Refusals.{InputPassed}
 use Rattle.theory.specs.Parts.{part, membersAt, candidatesAt, CandidatesIn}
-use Rattle.larger.specs.Search.{Lent, Posed, Tested}
+use Rattle.larger.specs.Search.{SearchFits, Posed, Tested}
 use Rattle.members.specs.Members.{HoldsMembers, MembersIn, pairwise, Tallies}
 use Rattle.query.specs.Query.{QueryReady, Decided}
 use Rattle.theory.proofs.basics.Parts.{part-length, part-at}
@@ -168,7 +168,7 @@ module _ {n : ℕ} {t ranks bs w₀ : List ℕ} {s : Settings} (ready : QueryRea
         has-candidates = subst (λ (vs : List ℕ). Candidates graph members vs) (sym candidates-are) (passing-candidates graph members)
 
         -- what `beaten` requires
-        pub beaten-asks : Lent n t ranks w₂ × Posed n t w₂ s y m
+        pub beaten-asks : SearchFits n t ranks w₂ × Posed n t w₂ s y m
         beaten-asks =
             let l = long in (
               record { table = accepted .fits; ranks-fit = ready .ranks-fit; degrees = ready .degrees; parts = omega arith },
