@@ -16,9 +16,9 @@ abbrev pub numbered : ℕ → Type 0 → Fault
 numbered k P = record { number = k; holds = P }
 
 -- every fault of the list has a number other than 0, since 0 is acceptance
-abbrev pub Numbers : List Fault → Type 0
-Numbers [] = Unit {0}
-Numbers (f ∷ fs) = (f .number ≢ 0) × Numbers fs
+abbrev pub NonZero : List Fault → Type 0
+NonZero [] = Unit {0}
+NonZero (f ∷ fs) = (f .number ≢ 0) × NonZero fs
 
 -- "checked in this order": k is the number of the first fault that holds, and 0 where none does
 unfoldable pub FirstFault : List Fault → ℕ → Type 0

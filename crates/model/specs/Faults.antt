@@ -8,7 +8,7 @@ use mathlib.Core.Logic.{_≢_, _⊎_}
 use mathlib.Core.List.{List, [], _∷_, _++_}
 use lib.ListN.{length, getD, set}
 pub use Rattle.model.specs.Fault.{Fault}
-unfoldable pub use Rattle.model.specs.Fault.{numbered, Numbers, FirstFault, NoFault}
+unfoldable pub use Rattle.model.specs.Fault.{numbered, NonZero, FirstFault, NoFault}
 use Rattle.model.specs.Graph.{Graph, LentGraph}
 use Rattle.model.specs.Groups.{Factor, Settings}
 use Rattle.model.specs.Meaning.{Under, Simple}
@@ -82,23 +82,23 @@ positionFaults G c p =
     ∷ numbered 23 (Reopened G c p)
     ∷ []
 
--- ---- the calls, on a graph that is lent with the faults `lent`
+-- ---- the calls, on a graph that is lent with these faults
 
 -- what every form in which a graph is lent has to show: its fault number is that of the first of its faults, and without a fault its graph is one
 -- of document 01's
-pub record Lends (lent : List Fault) (L : LentGraph) : Type 0 where
-  pub numbers : Numbers lent
-  pub first : FirstFault lent (L .fault)
+pub record Lends (faults : List Fault) (L : LentGraph) : Type 0 where
+  pub numbers : NonZero faults
+  pub first : FirstFault faults (L .fault)
   pub simple : L .fault ≡ 0 → Simple (L .graph)
 
 -- the page call: the faults of what is lent, 1 to 5 for a table of bytes; 6 to 10, then 21 to 23
 abbrev pub pageFaults : List Fault → Graph → Settings → Position → ℕ → List Fault
-pageFaults lent G s p work = lent ++ (settingsFaults s ++ lengthFaults (G .size) (length p) work ++ positionFaults G (s .factor) p)
+pageFaults faults G s p work = faults ++ (settingsFaults s ++ lengthFaults (G .size) (length p) work ++ positionFaults G (s .factor) p)
 
 -- the set query: the same up to 10, then 11 a set byte over 1
 abbrev pub queryFaults : List Fault → Graph → Settings → List ℕ → ℕ → List Fault
-queryFaults lent G s bs work =
-    lent ++ (settingsFaults s ++ lengthFaults (G .size) (length bs) work ++ (numbered 11 ((i : ℕ) × (i < length bs) × (1 < getD bs i 0)) ∷ []))
+queryFaults faults G s bs work =
+    faults ++ (settingsFaults s ++ lengthFaults (G .size) (length bs) work ++ (numbered 11 ((i : ℕ) × (i < length bs) × (1 < getD bs i 0)) ∷ []))
 
 -- a refused page call: all other numbers in the answer are 0, and lent memory is unchanged
 abbrev pub turnedBack : ℕ → Position → List ℕ → PageReply

@@ -10,8 +10,8 @@ ghost use Rattle.page.specs.Halves.{PageJudged, Accepted};
 use input::input_refusal;
 use isolation::Settings;
 use position::Opening;
+use position::no_opening;
 use position::position_refusal;
-use position::refused;
 use ranks::prepare;
 use rounds::PageAnswer;
 use rounds::run;
@@ -35,7 +35,7 @@ pub fn page_refusal(
 {
     let a = input_refusal(table, n, q, position.len(), work);
     if a != 0 {
-        return refused(a);
+        return no_opening(a);
     }
     prepare(table, n, ranks);
     position_refusal(table, ranks, n, q, position, memory)
@@ -43,7 +43,7 @@ pub fn page_refusal(
 
 // The walk of an accepted call: the state goes on from `memory` in the work slice, and then the rounds are made. Reads the table, the ranks and the memory;
 // writes the position, the output and the work slice.
-fn walk_on(
+pub fn walk_on(
     table: &[u8],
     ranks: &[u16],
     memory: &[u16],

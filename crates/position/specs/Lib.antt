@@ -1,2 +1,2 @@
--- What the refusals of a position read and find.
+-- What the refusals of a position find.
 pub mod Position

@@ -52,7 +52,7 @@ fn has_gap(position: &[u8]) -> bool
 }
 
 // An opening with this refusal number and a state in which nothing is decided.
-pub fn refused(number: u32) -> Opening
+pub fn no_opening(number: u32) -> Opening
     ensures { λ r. ⌜ r .refusal ≡ number ⌝ }
 {
     Opening {
@@ -82,15 +82,15 @@ pub fn position_refusal(
     ensures { λ r. ⌜ PositionJudged (graphOf n (now (table .entry))) q (now (position .entry)) (now (memory .exit)) r ⌝ }
 {
     if any_over(2, position) {
-        return refused(21);
+        return no_opening(21);
     }
     if has_gap(position) {
-        return refused(22);
+        return no_opening(22);
     }
     let last = less(decided_count(position), 1);
     let s = rebuild(table, ranks, n, position, last, memory);
     if is_dead(s, q, memory) {
-        return refused(23);
+        return no_opening(23);
     }
     Opening {
         refusal: 0,

@@ -10,7 +10,7 @@ use Rattle.page.proofs.page_refusal.Statement.{statement}
 use Rattle.page.proofs.page_refusal.Tie as tie
 
 returns : tie.Need-returns
-returns c = judged-input (c .before .before .input-refusal .ensures) (c .before .if1 .taken) (c .refused .ensures)
+returns c = judged-input (c .before .before .input-refusal .ensures) (c .before .if1 .taken) (c .no-opening .ensures)
 
 -- what passes 1 to 10
 passed : (c : tie.Else1) → let a = c .before .before .before .before .before .before .args in InputPassed (a .n) (a .table .now) (a .q) (length (a .position .now)) (a .work)

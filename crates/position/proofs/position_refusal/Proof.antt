@@ -15,7 +15,7 @@ returns : tie.Need-returns
 unfolding refuse
 returns c =
     let q = c .before .before .before .before .before .before .before .args .q in
-    judged-refused _ q _ _ (c .refused .ensures) (omega arith)
+    judged-refused _ q _ _ (c .no-opening .ensures) (omega arith)
     (position-by (rules _ (settingsOf q)) _ (sym (c .before .before .any-over .ensures) ∙ c .before .if1 .taken) refl refl)
 
 -- no byte is over 2
@@ -26,7 +26,7 @@ returns-2 : tie.Need-returns-2
 unfolding refuse
 returns-2 c =
     let q = c .before .before .before .before .before .before .before .before .before .args .q in
-    judged-refused _ q _ _ (c .refused2 .ensures) (omega arith)
+    judged-refused _ q _ _ (c .no-opening2 .ensures) (omega arith)
     (position-by (rules _ (settingsOf q)) _ (bytes (c .before .before .before)) (sym (c .before .before .has-gap .ensures) ∙ c .before .if2 .taken) refl)
 
 -- nor is a decided rank after an open one
@@ -46,7 +46,7 @@ returns-3 c =
     let u = d .before .before .before .before in
     let e = u .before .before .before .before in
     let q = e .before .before .before .before .before .before .before .before .args .q in
-    judged-refused _ q _ _ (c .refused3 .ensures) (omega arith)
+    judged-refused _ q _ _ (c .no-opening3 .ensures) (omega arith)
     (position-by (rules _ (settingsOf q)) _ (bytes (e .before .before)) (gapless e) (sym (d .is-dead .ensures _ _ (u .rebuild .ensures)) ∙ c .before .if3 .taken))
 
 returns-4 : tie.Need-returns-4

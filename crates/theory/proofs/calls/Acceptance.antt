@@ -54,9 +54,9 @@ module _ (L : LentGraph) (s : Settings) where
           ∙ refuse-on 10 (ltb work (8 * n)) 0 (le-ltb work (8 * n) (h .enough))
 
   -- A page call is accepted exactly where its position passes too.
-  pub page-accepted-iff : (p : Position) (work : ℕ) → (refusePage L s p work ≡ 0) ↔ PageAccepted L s p work
+  pub page-passes-iff : (p : Position) (work : ℕ) → (refusePage L s p work ≡ 0) ↔ PageAccepted L s p work
   unfolding refusePage
-  page-accepted-iff p work = (
+  page-passes-iff p work = (
     λ e. let a = else-passed (refuseInput L s (length p) work) _ e in record { input = input-accepted-iff (length p) work .0 (a .0); stands = a .1 },
     λ h. else-none (input-accepted-iff (length p) work .1 (h .input)) _ ∙ h .stands,
   )

@@ -8,7 +8,7 @@ use mathlib.Core.List.{List, [], _∷_, _++_}
 use native.Mathlib.Omega.{arith}
 use native.Mathlib.Nat.{not-suc-le-zero}
 use lib.ListN.{length, getD}
-use Rattle.model.specs.Fault.{Fault, numbered, Numbers, FirstFault, NoFault}
+use Rattle.model.specs.Fault.{Fault, numbered, NonZero, FirstFault, NoFault}
 use Rattle.model.specs.Calls.{refuse, orElse, over}
 use Rattle.theory.proofs.basics.Tests.{Test, test-map, test-or, test-lt}
 use Rattle.theory.proofs.basics.Refusals.{else-none, else-found}
@@ -30,24 +30,24 @@ none-first (f ∷ fs) k n (inl a) = absurd (n .0 (a .0))
 none-first (f ∷ fs) k n (inr a) = none-first fs k (n .1) (a .1)
 
 -- and it is 0 only there, since every fault has a number
-pub first-none : (fs : List Fault) (k : ℕ) → Numbers fs → FirstFault fs k → (k ≡ 0) ↔ NoFault fs
+pub first-none : (fs : List Fault) (k : ℕ) → NonZero fs → FirstFault fs k → (k ≡ 0) ↔ NoFault fs
 unfolding FirstFault
 first-none fs k r a = (λ z. there fs k r a z, λ n. none-first fs k n a)
   where
-    there : (fs : List Fault) (k : ℕ) → Numbers fs → FirstFault fs k → k ≡ 0 → NoFault fs
+    there : (fs : List Fault) (k : ℕ) → NonZero fs → FirstFault fs k → k ≡ 0 → NoFault fs
     there [] k r a z = tt
     there (f ∷ fs) k r (inl a) z = absurd (r .0 (sym (a .1) ∙ z))
     there (f ∷ fs) k r (inr a) z = (a .0, there fs k (r .1) (a .1) z)
 
 -- two lists of faults, one after the other: the later ones count where none of the earlier holds
-pub first-else : (fs gs : List Fault) (j k : ℕ) → Numbers fs → FirstFault fs j → (NoFault fs → FirstFault gs k) → FirstFault (fs ++ gs) (orElse j k)
+pub first-else : (fs gs : List Fault) (j k : ℕ) → NonZero fs → FirstFault fs j → (NoFault fs → FirstFault gs k) → FirstFault (fs ++ gs) (orElse j k)
 unfolding FirstFault
 first-else [] gs j k r a f = subst⁻¹ (FirstFault gs) (else-none a k) (f tt)
 first-else (g ∷ fs) gs j k r (inl a) f = inl (a .0, else-found (λ z. r .0 (sym (a .1) ∙ z)) k ∙ a .1)
 first-else (g ∷ fs) gs j k r (inr a) f = inr (a .0, first-else fs gs j k (r .1) (a .1) (λ n. f (a .0, n)))
 
 -- the numbers of both
-pub numbers-both : (fs gs : List Fault) → Numbers fs → Numbers gs → Numbers (fs ++ gs)
+pub numbers-both : (fs gs : List Fault) → NonZero fs → NonZero gs → NonZero (fs ++ gs)
 numbers-both [] gs a b = b
 numbers-both (f ∷ fs) gs a b = (a .0, numbers-both fs gs (a .1) b)
 

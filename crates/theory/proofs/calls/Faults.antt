@@ -1,4 +1,4 @@
--- A call is refused with the number of the first fault that holds, and accepted exactly where none holds, whatever form its graph is lent in.
+-- A call is refused with the number of the first fault that holds, and accepted exactly where none holds, whatever form its graph is faults in.
 -- Assumes nothing.
 use Prim.Native.Nat.{ℕ, zero, suc, _*_, _<_}
 use mathlib.Core.Path.{_≡_, refl, sym, ap, _∙_, subst}
@@ -53,21 +53,21 @@ lengths-first n bytes work =
     refuse-first 9 _ _ _ (test-not (test-eq bytes n)) (λ h9. refuse-first 10 _ _ _ (test-lt work (8 * n)) (λ h10. none-found))
 
 -- p is the position of a page call, and the set of a set query
-module _ {lent : List Fault} {L : LentGraph} (form : Lends lent L) (s : Settings) (p : List ℕ) (work : ℕ) where
-  -- the faults of what is lent, 6 to 10, and what is known where none of them holds
+module _ {faults : List Fault} {L : LentGraph} (form : Lends faults L) (s : Settings) (p : List ℕ) (work : ℕ) where
+  -- the faults of what is faults, 6 to 10, and what is known where none of them holds
   input-first : (fs : List Fault) (later : ℕ) → (Symmetric (L .graph) → length p ≡ L .graph .size → FirstFault fs later)
-      → FirstFault (lent ++ (settingsFaults s ++ lengthFaults (L .graph .size) (length p) work ++ fs)) (orElse (refuseInput L s (length p) work) later)
+      → FirstFault (faults ++ (settingsFaults s ++ lengthFaults (L .graph .size) (length p) work ++ fs)) (orElse (refuseInput L s (length p) work) later)
   unfolding refuseInput
   input-first fs later f =
       subst (FirstFault _)
       (sym (else-assoc (L .fault) _ later ∙ ap (orElse (L .fault)) (else-assoc (refuseSettings s) (refuseLengths (L .graph .size) (length p) work) later)))
-      (first-else lent _ _ _ (form .numbers) (form .first) (λ sound.
+      (first-else faults _ _ _ (form .numbers) (form .first) (λ sound.
       first-else (settingsFaults s) _ _ _ (omega arith) (settings-first s) (λ proper.
       first-else (lengthFaults (L .graph .size) (length p) work) _ _ _ (omega arith) (lengths-first (L .graph .size) (length p) work) (λ lengths.
-      f (form .simple (first-none lent (L .fault) (form .numbers) (form .first) .1 sound) .symmetric) (not-different (length p) (L .graph .size) (lengths .0))))))
+      f (form .simple (first-none faults (L .fault) (form .numbers) (form .first) .1 sound) .symmetric) (not-different (length p) (L .graph .size) (lengths .0))))))
 
   -- the page call is refused with the first fault
-  pub page-first : FirstFault (pageFaults lent (L .graph) s p work) (refusePage L s p work)
+  pub page-first : FirstFault (pageFaults faults (L .graph) s p work) (refusePage L s p work)
   unfolding refusePage refusePosition
   page-first =
       input-first (positionFaults (L .graph) (s .factor) p) _ (λ symmetric long.
@@ -76,48 +76,48 @@ module _ {lent : List Fault} {L : LentGraph} (form : Lends lent L) (s : Settings
       refuse-first 23 _ _ _ (reopened-test (L .graph) symmetric (s .factor) p long h22) (λ h23. none-found))))
 
   -- and so is the set query
-  pub query-first : FirstFault (queryFaults lent (L .graph) s p work) (refuseQuery L s p work)
+  pub query-first : FirstFault (queryFaults faults (L .graph) s p work) (refuseQuery L s p work)
   unfolding refuseQuery
   query-first = input-first _ _ (λ symmetric long. refuse-first 11 _ _ _ (over-test 1 p) (λ h11. none-found))
 
   -- a call is accepted exactly where no fault holds
-  pub page-accepted-iff : (refusePage L s p work ≡ 0) ↔ NoFault (pageFaults lent (L .graph) s p work)
+  pub page-accepted-iff : (refusePage L s p work ≡ 0) ↔ NoFault (pageFaults faults (L .graph) s p work)
   page-accepted-iff =
-      first-none (pageFaults lent (L .graph) s p work) (refusePage L s p work) (numbers-both lent _ (form .numbers) (omega arith)) page-first
+      first-none (pageFaults faults (L .graph) s p work) (refusePage L s p work) (numbers-both faults _ (form .numbers) (omega arith)) page-first
 
   -- and so for the set query
-  pub query-accepted-iff : (refuseQuery L s p work ≡ 0) ↔ NoFault (queryFaults lent (L .graph) s p work)
+  pub query-accepted-iff : (refuseQuery L s p work ≡ 0) ↔ NoFault (queryFaults faults (L .graph) s p work)
   query-accepted-iff =
-      first-none (queryFaults lent (L .graph) s p work) (refuseQuery L s p work) (numbers-both lent _ (form .numbers) (omega arith)) query-first
+      first-none (queryFaults faults (L .graph) s p work) (refuseQuery L s p work) (numbers-both faults _ (form .numbers) (omega arith)) query-first
 
   -- a refused set query says no
-  pub query-refused : (k : ℕ) → k ≢ 0 → FirstFault (queryFaults lent (L .graph) s p work) k → answerTo L s p work ≡ saidNo k
+  pub query-refused : (k : ℕ) → k ≢ 0 → FirstFault (queryFaults faults (L .graph) s p work) k → answerTo L s p work ≡ saidNo k
   unfolding answerTo
   query-refused k d f =
       let q = qualifies (L .graph) s (byBytes p) in
-      ap (λ (j : ℕ). queryReply j q) (first-once (queryFaults lent (L .graph) s p work) (refuseQuery L s p work) k query-first f) ∙ query-no k q d
+      ap (λ (j : ℕ). queryReply j q) (first-once (queryFaults faults (L .graph) s p work) (refuseQuery L s p work) k query-first f) ∙ query-no k q d
 
   -- an accepted one says yes exactly where the set qualifies
-  pub query-yes-iff : NoFault (queryFaults lent (L .graph) s p work) → (answerTo L s p work .yes ≡ true) ↔ Qualifies (L .graph) s (byBytes p)
+  pub query-yes-iff : NoFault (queryFaults faults (L .graph) s p work) → (answerTo L s p work .yes ≡ true) ↔ Qualifies (L .graph) s (byBytes p)
   unfolding answerTo queryReply
   query-yes-iff f =
       let says = ap (λ (k : ℕ). queryReply k (qualifies (L .graph) s (byBytes p)) .yes) (query-accepted-iff .1 f) in
       (λ e. qualifies-iff (L .graph) s (byBytes p) .0 (sym says ∙ e), λ q. says ∙ qualifies-iff (L .graph) s (byBytes p) .1 q)
 
 -- of a page call, by what it brings
-module _ {lent : List Fault} (c : Call) (form : Lends lent (c .lent)) (p : Position) where
+module _ {faults : List Fault} (c : Call) (form : Lends faults (c .lent)) (p : Position) where
   -- a refused page call answers with the fault's number and zeros, and leaves the position and the output as they were
-  pub page-refused : (k : ℕ) → k ≢ 0 → FirstFault (pageFaults lent (c .lent .graph) (c .settings) p (c .work)) k → replyTo c p ≡ turnedBack k p (c .output)
+  pub page-refused : (k : ℕ) → k ≢ 0 → FirstFault (pageFaults faults (c .lent .graph) (c .settings) p (c .work)) k → replyTo c p ≡ turnedBack k p (c .output)
   unfolding replyTo
   page-refused k d f =
       let r = page (rules (c .lent .graph) (c .settings)) (c .budget) (length (c .output)) p in
       ap (λ (j : ℕ). replyOf j r p (c .output))
-      (first-once (pageFaults lent (c .lent .graph) (c .settings) p (c .work)) (refusePage (c .lent) (c .settings) p (c .work)) k
+      (first-once (pageFaults faults (c .lent .graph) (c .settings) p (c .work)) (refusePage (c .lent) (c .settings) p (c .work)) k
       (page-first form (c .settings) p (c .work)) f)
       ∙ reply-refused k r p (c .output) d
 
   -- an accepted one does what a page does
-  pub page-accepted : NoFault (pageFaults lent (c .lent .graph) (c .settings) p (c .work))
+  pub page-accepted : NoFault (pageFaults faults (c .lent .graph) (c .settings) p (c .work))
       → replyTo c p ≡ replyOf 0 (page (rules (c .lent .graph) (c .settings)) (c .budget) (length (c .output)) p) p (c .output)
   unfolding replyTo
   page-accepted f =

@@ -13,7 +13,7 @@ use Rattle.model.specs.Demand.{replies, leftAt, allSteps, Agree, Demand3}
 use Rattle.theory.proofs.walk.Lawful.{lawful}
 use Rattle.theory.proofs.walk.Remaining.{fresh-fit}
 use Rattle.theory.proofs.walk.Walk.{after-valid, after-add}
-use Rattle.theory.proofs.calls.Acceptance.{page-accepted-iff}
+use Rattle.theory.proofs.calls.Acceptance.{page-passes-iff}
 use Rattle.theory.proofs.walk.Accepted.{walk-accepted}
 use Rattle.theory.proofs.walk.Visited.{visited-iff}
 use Rattle.theory.proofs.calls.Pages.{page-does, replied, call-refused, call-accepted, demand3}
@@ -33,7 +33,7 @@ walk-call-accepted c f k p e =
     let R = rules G (c .settings) in
     let law = lawful G (f .simple .loopless) (c .settings) in
     call-refused c p ∙ ap (λ (q : Position). refusePage (c .lent) (c .settings) q (c .work)) (sym e)
-    ∙ page-accepted-iff (c .lent) (c .settings) (after R k (fresh (G .size))) (c .work) .1
+    ∙ page-passes-iff (c .lent) (c .settings) (after R k (fresh (G .size))) (c .work) .1
     (record {
       input =
           record {

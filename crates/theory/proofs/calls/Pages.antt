@@ -21,7 +21,7 @@ use Rattle.model.specs.Calls.{Call, PageReply, refusePage, replyOf, replyTo}
 use Rattle.model.specs.Demand.{replies, leftAt, joinedOutput, allSteps, allGroups, Agree, Prefix, SaidFinished, SomeFinished, Demand3, Each, MakesStep, Idle, RefusedIdle, Demanded}
 use Rattle.theory.specs.Replies.{gone, Went, Replied, Chain}
 use Rattle.theory.proofs.basics.Tests.{lt-or-ge}
-use Rattle.theory.proofs.calls.Acceptance.{PageAccepted, page-accepted-iff}
+use Rattle.theory.proofs.calls.Acceptance.{PageAccepted, page-passes-iff}
 use Rattle.theory.proofs.calls.Bounds.{page-bounds}
 use Rattle.theory.proofs.walk.Listing.{lists}
 use Rattle.theory.proofs.walk.Lawful.{lawful}
@@ -244,7 +244,7 @@ call-refused c p = refused-same (refusePage (c .lent) (c .settings) p (c .work))
 
 -- an accepted page call's refusals all pass
 pub call-accepted : (c : Call) (p : Position) → replyTo c p .refused ≡ 0 → PageAccepted (c .lent) (c .settings) p (c .work)
-call-accepted c p e = page-accepted-iff (c .lent) (c .settings) p (c .work) .0 (sym (call-refused c p) ∙ e)
+call-accepted c p e = page-passes-iff (c .lent) (c .settings) p (c .work) .0 (sym (call-refused c p) ∙ e)
 
 -- a page call keeps the number of ranks
 call-long : (n : ℕ) (c : Call) (p : Position) → length p ≡ n → length (replyTo c p .position) ≡ n
