@@ -5,7 +5,7 @@ use mathlib.Core.Path.{_≡_, refl, sym, ap, _∙_, subst}
 use mathlib.Core.Logic.{_≢_}
 use mathlib.Core.List.{List, [], _∷_, map}
 use native.Mathlib.Omega.{arith}
-use lib.ListN.{length}
+use lib.ListN.{length, length-replicate}
 use Rattle.model.specs.Graph.{Graph}
 use Rattle.model.specs.Groups.{Settings, settings, VertexSet}
 use Rattle.model.specs.Meaning.{Qualifies}
@@ -15,10 +15,11 @@ use Rattle.model.specs.Calls.{Call, PageReply, refusePage, replyOf, replyTo}
 use Rattle.model.specs.Demand as model
 use Rattle.model.specs.Demand.{joinedOutput, SomeFinished, Demand3}
 use Rattle.theory.proofs.calls.Bounds.{page-bounds}
-use Rattle.theory.proofs.calls.Pages.{call-progress, demand3}
+use Rattle.theory.proofs.calls.Pages.{call-accepted, call-progress, demand3}
 use Rattle.graph.specs.Table.{lent}
+use Rattle.graph.proofs.Refusals.{lent-simple}
 use Rattle.rounds.specs.Answer.{PageReplies}
-use Rattle.demand.specs.Demand.{MadeCall, Promised, reported, Calls, EachCall, Every, PageDemanded}
+use Rattle.demand.specs.Demand.{MadeCall, Promised, reported, Calls, EachCall, Every, PageDemanded, TableCalls, TableDemanded}
 
 -- ---- a call of `page::page` and its reply in document 01
 
@@ -110,3 +111,24 @@ demand G s simple cs h =
           subst (λ (rs : List PageReply). SomeFinished rs → joinedOutput rs ≡ [] → (S : VertexSet) → Qualifies G s S → ⊥) e (d .none-qualifies);
       each = every-call G s (fresh (G .size)) cs h;
     }
+
+-- ---- calls that bring one table
+
+-- calls that bring one table bring its graph, since an accepted call has the n of the position that it is handed
+table-calls : (n : ℕ) (t : List ℕ) (s : Settings) (p : Position) (cs : List MadeCall) → length p ≡ n → TableCalls t s p cs → Calls (lent n t .graph) s p cs
+table-calls n t s p [] l h = tt
+table-calls n t s p (c ∷ cs) l h = (
+  record {
+    promised = h .0;
+    handed = h .1;
+    agrees = λ z.
+        let m = sym (call-accepted (brought c) (c .position) (sym (h .0 .replies .refusal) ∙ z) .input .long) ∙ ap length (h .1) ∙ l in
+        let e = h .2 z in
+        (λ i. lent (m i) (e .0 i) .graph, e .1);
+  },
+  table-calls n t s (c .position-left) cs (ap length (h .0 .replies .position) ∙ page-bounds (brought c) (c .position) .position-length ∙ ap length (h .1) ∙ l) (h .3),
+)
+
+-- Demand 3, of any list of calls that bring one table without fault.
+pub table-demand : TableDemanded
+table-demand n t s valid cs h = demand (lent n t .graph) s (lent-simple n t valid) cs (table-calls n t s (fresh n) cs (length-replicate {A = ℕ} n 0) h)

@@ -93,3 +93,14 @@ pub record PageDemand (G : Graph) (s : Settings) (cs : List MadeCall) : Type 0 w
 -- Demand 3: of every graph of document 01, all settings, and any list of calls of `page::page` that begins at fresh, the empty one too
 abbrev pub PageDemanded : Type 0
 PageDemanded = (G : Graph) (s : Settings) → Simple G → (cs : List MadeCall) → Calls G s (fresh (G .size)) cs → PageDemand G s cs
+
+-- the same of calls that bring one table: of which the first is handed p, and each later one the position as the call before it left it
+abbrev pub TableCalls : List ℕ → Settings → Position → List MadeCall → Type 0
+TableCalls t s p [] = Unit {0}
+TableCalls t s p (c ∷ cs) =
+    Promised c × (c .position ≡ p) × (c .answer .refusal ≡ 0 → (c .table ≡ t) × (settings (c .notion) (c .kind) (c .factor) ≡ s))
+    × TableCalls t s (c .position-left) cs
+
+-- Demand 3 of a graph's table, one without fault: "Every accepted call brings this graph's table and this notion, kind and factor."
+abbrev pub TableDemanded : Type 0
+TableDemanded = (n : ℕ) (t : List ℕ) (s : Settings) → lent n t .fault ≡ 0 → (cs : List MadeCall) → TableCalls t s (fresh n) cs → PageDemand (lent n t .graph) s cs

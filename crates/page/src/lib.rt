@@ -19,7 +19,7 @@ use state::State;
 use state::go_on;
 
 // The refusal number of a page call with a work slice of `work` entries, and where it is 0 the state of the position with its last decided rank opened.
-// Reads the table and the position, and writes `ranks` and `memory` alone: they then hold the graph's ranks, and the state's parts.
+// Reads the table and the position, and writes `ranks` and `memory` alone: where the number is 0 they then hold the graph's ranks, and the state's parts.
 // Document 01, "Turned back by the state": 21 to 23 are tested after 1 to 10.
 pub fn page_refusal(
     table: &[u8],

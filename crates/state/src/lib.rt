@@ -53,7 +53,8 @@ pub fn finished(s: State, n: usize) -> bool
 }
 
 // Whether the position is dead. Document 01, "The walk": two taken ranks are not adjacent, or something is taken and at least c neighbours of the
-// pivot are left. The pivot has the least outside count of a clique, so then no notion of document 002, section 2.1, can hold.
+// pivot are left. The pivot has the least outside count of a clique, so then no notion of document 002, section 2.1, can hold. Reads the factor of the settings, and
+// nothing of the work slice.
 pub fn is_dead(s: State, q: Settings, work: &[u16]) -> bool
     requires { ⌜ FactorFits q ⌝ }
     ensures { λ r. ⌜ SaysDead q (now (work .entry)) s r ⌝ }
