@@ -1,2 +1,3 @@
--- The theorem about what the program prints.
-pub mod ProgramPrints
+-- The laws of how the program ends, and the theorem about what it prints.
+pub mod Endings
+pub mod Whole

@@ -1,20 +1,23 @@
-// The program: it reads its words and its text, judges them, and prints a refusal or all groups and the totals.
+// The program: it reads its words and its text, decides, and prints a refusal or all groups and the totals.
 ghost use mathlib.Core.Path.{_≡_};
-ghost use Prim.Native.Nat.{_-_};
+ghost use Prim.Native.Nat.{_-_, _≤_};
 ghost use lib.ListN.{length};
-ghost use Rattle.model.specs.Calls.{refuseSettings};
 ghost use Rattle.isolation.specs.Numbers.{settingsOf};
-ghost use Rattle.listing.specs.List.{Listable};
+ghost use Rattle.listing.specs.List.{Listable, Ran};
+ghost use Rattle.request.specs.Verdict.{Fine};
+ghost use Rattle.cli.specs.Ending.{ListedBy, Answers};
+use crate::ending::Outcome;
+use crate::ending::last_line;
+use crate::ending::outcome_line;
+use crate::ending::outcome_of;
+use crate::input::read_wanted;
 use isolation::Settings;
-use libc::STDIN_FILENO;
 use listing::list_all;
+use listing::totals::Listed;
 use listing::write_first;
-use print::end_line;
-use print::refused_line;
 use request::verdict::Verdict;
-use request::verdict::judge;
-use request::words::Words;
-use request::words::settings_of;
+use request::verdict::decide;
+use request::words::wants_text;
 
 // Room for the output of a page, for the work slice of 256 vertices, and for what is printed of a page.
 fn output_room() -> [u16; 8192]
@@ -35,49 +38,56 @@ fn print_room() -> [u8; 49152]
     [0; 49152]
 }
 
-// "A refusal prints only `refused NUMBER LINE`."
-fn refuse(number: u32, line: usize) {
-    let mut bytes = [0u8; 40];
-    let k = refused_line(number, line, &mut bytes);
-    write_first(&bytes, k);
-}
-
-// Prints "one line a group", and then `end GROUPS STEPS`.
-fn list(table: &[u8], n: usize, s: Settings)
+// Prints "one line a group" of a graph of at most 256 vertices.
+fn list_graph(table: &[u8], n: usize, s: Settings, bytes: &mut [u8]) -> Listed
     requires { ⌜ Listable n (now table) (settingsOf s) ⌝ }
+    requires { ⌜ 49152 ≤ length (now bytes) ⌝ }
+    ensures { λ r. ⌜ Ran n (now (table .entry)) (settingsOf s) r ⌝ }
 {
     let mut position = [0u8; 256];
     let mut output = output_room();
     let mut work = work_room();
-    let mut bytes = print_room();
-    let t = list_all(
+    list_all(
         table,
         &mut position[..n],
         &mut output,
         &mut work,
-        &mut bytes,
+        bytes,
         n,
         s,
-    );
-    let k = end_line(t.groups, t.steps, &mut bytes);
-    write_first(&bytes, k);
+    )
 }
 
-// Reads the text, of which one byte more than is allowed tells that it is too long, and lists its graph or refuses it.
-fn answer(s: Settings)
-    requires { ⌜ refuseSettings (settingsOf s) ≡ 0 ⌝ }
+// Prints the groups where there is a graph to list. A refusal lists nothing.
+fn list(v: Verdict, table: &[u8], bytes: &mut [u8]) -> Listed
+    requires { ⌜ Fine v (now table) ⌝ }
+    requires { ⌜ 49152 ≤ length (now bytes) ⌝ }
+    ensures { λ r. ⌜ ListedBy v (now (table .entry)) r ⌝ }
 {
-    let mut text = [0u8; 65537];
-    let mut table = [0u8; 65536];
-    let got = io::read_full(STDIN_FILENO, &mut text);
-    match judge(&text[..got], &mut table) {
-        Verdict::Refused(number, line) => {
-            refuse(number, line);
+    match v {
+        Verdict::Refused(_, _) => {
+            return Listed {
+                groups: 0,
+                steps: 0,
+                whole: false,
+            };
         }
-        Verdict::Listing(n) => {
-            list(&table[..n * n], n, s);
+        Verdict::Listing(s, n) => {
+            return list_graph(&table[..n * n], n, s, bytes);
         }
     }
+}
+
+// Prints what a verdict asks for: the groups, and then the last line, by way of a buffer.
+fn answer(v: Verdict, table: &[u8], bytes: &mut [u8]) -> Outcome
+    requires { ⌜ Fine v (now table) ⌝ }
+    requires { ⌜ 49152 ≤ length (now bytes) ⌝ }
+    ensures { λ r. ⌜ Answers v (now (table .entry)) (now (bytes .exit)) r ⌝ }
+{
+    let l = list(v, table, bytes);
+    let k = last_line(v, l, bytes);
+    let written = write_first(bytes, k);
+    outcome_of(v, l, written)
 }
 
 // How many words follow the program's own name.
@@ -87,22 +97,39 @@ fn after_name(count: usize) -> usize
     if count == 0 { 0 } else { count - 1 }
 }
 
-// The program: words first, then 41, then the text. A word that is longer than its buffer is no number, and neither is the empty one that
-// stands for it here.
-pub fn program() {
+// The program: words first, then 41, then the text, of which one byte more than is allowed tells that it is too long. A word that is longer than
+// its buffer is no number, and neither is the empty one that stands for it here. A text that can't be read is neither listed nor refused.
+pub fn program() -> Outcome {
     let mut a = [0u8; 8];
     let mut b = [0u8; 8];
     let mut c = [0u8; 8];
+    let mut text = [0u8; 65537];
+    let mut table = [0u8; 65536];
     let first = os::arg(1, &mut a);
     let second = os::arg(2, &mut b);
     let third = os::arg(3, &mut c);
     let count = after_name(os::arg_count());
-    match settings_of(count, &a[..first], &b[..second], &c[..third]) {
-        Words::Wrong(number) => {
-            refuse(number, 0);
-        }
-        Words::Chosen(s) => {
-            answer(s);
-        }
+    let wanted = wants_text(count, &a[..first], &b[..second], &c[..third]);
+    let read = read_wanted(wanted, &mut text);
+    if read.failed {
+        return Outcome::Unread;
     }
+    let got = read.bytes;
+    let v = decide(
+        count,
+        &a[..first],
+        &b[..second],
+        &c[..third],
+        &text[..got],
+        &mut table,
+    );
+    let mut bytes = print_room();
+    answer(v, &table, &mut bytes)
+}
+
+// Tells an outcome on a descriptor of its own, for whoever started the program with one.
+pub fn tell(descriptor: i32, o: Outcome) {
+    let mut bytes = [0u8; 40];
+    let k = outcome_line(o, &mut bytes);
+    io::write_all(descriptor, &bytes[..k]);
 }

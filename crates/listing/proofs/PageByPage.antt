@@ -1,21 +1,21 @@
 -- Page by page: the replies so far, one more, and why this ends. Assumes nothing.
 use Prim.Native.Nat.{ℕ, zero, suc, _+_, _*_, _≤_, _<_}
 use mathlib.Core.Path.{_≡_, refl, sym, ap, ap₂, _∙_, subst, subst₂}
-use mathlib.Core.Bool.{true, false}
+use mathlib.Core.Bool.{Bool, true, false}
 use mathlib.Core.Logic.{_≢_, inl, inr}
-use mathlib.Core.List.{List, [], _∷_, _++_}
+use mathlib.Core.List.{List, [], _∷_, _++_, append-assoc}
 use native.Mathlib.Nat.{not-suc-le-zero}
 use native.Mathlib.Omega.{arith}
 use lib.ListN.{length, take, replicate}
 use borrow.Author.Tests.{eqb-true, eqb-false}
 use Rattle.model.specs.Groups.{Settings}
-use Rattle.model.specs.Walk.{Position, Rules, fresh, finished, page, stoppedFinished}
+use Rattle.model.specs.Walk.{Position, Rules, fresh, finished, page, fullSets, stoppedFinished}
 use Rattle.model.specs.Listing.{rules, recordLength}
 use Rattle.model.specs.Calls.{refuseSettings, refusePage, PageReply, replyTo}
 use Rattle.model.specs.Demand.{leftAt, allSteps, allGroups, SomeFinished, Demand3, PageBounds}
-use Rattle.model.specs.Program.{held, endLine, programVerdict, listing, Prints}
+use Rattle.model.specs.Program.{groupLines, held, endLine, Verdict, listing, programVerdict, PrintsAt, Prints}
 use Rattle.theory.specs.Replies.{Replied, Chain}
-use Rattle.theory.specs.Printed.{printedPages}
+use Rattle.theory.specs.Printed.{printedPages, Begins}
 use Rattle.theory.proofs.basics.Tests.{fails}
 use Rattle.theory.proofs.walk.Remaining.{Fit, fresh-fit}
 use Rattle.theory.proofs.walk.Lawful.{lawful}
@@ -24,13 +24,13 @@ use Rattle.theory.proofs.walk.Ends.{weight, stretch-falls}
 use Rattle.theory.proofs.calls.Pages.{replied, page-does, went-finished, chain-demand, call-progress}
 use Rattle.theory.proofs.calls.Next.{demand-accepted}
 use Rattle.theory.proofs.program.Printed.{held-add}
-use Rattle.theory.proofs.program.Program.{all-groups, pages-listed, pages-print}
+use Rattle.theory.proofs.program.Program.{all-groups, pages-begin, pages-listed, pages-print}
 use Rattle.graph.specs.Table.{lent, graphOf}
 use Rattle.graph.proofs.Refusals.{lent-simple}
 use Rattle.rounds.specs.declared.PageAnswer.{PageAnswer}
 use Rattle.rounds.specs.Answer.{PageReplies}
 use Rattle.listing.specs.declared.PageDone.{PageDone}
-use Rattle.listing.specs.declared.totals.Totals.{Totals}
+use Rattle.listing.specs.declared.totals.Listed.{Listed}
 use Rattle.listing.specs.List.{turnCall, turnReply, Turned, Paged, Ran}
 
 -- ---- one page
@@ -87,6 +87,31 @@ pub paged-none : {n : ℕ} {t : List ℕ} {s : Settings} {p : Position} → p �
 unfolding leftAt allGroups allSteps
 paged-none e = record { replies = []; chain = tt; left = sym e; all-groups = refl; all-steps = refl }
 
+-- what the pages so far come to, with a flag that says whole only where one of them has said Finished
+paged-ran : {n : ℕ} {t : List ℕ} {s : Settings} → lent n t .fault ≡ 0 → {p : Position} {g k : ℕ} (paged : Paged n t s p g k) (w : Bool)
+    → (w ≡ true → SomeFinished (paged .replies)) → Ran n t s (record { groups = g; steps = k; whole = w })
+paged-ran {n} {t} {s} valid paged w f =
+    let rs = paged .replies in
+    let c = paged .chain in
+    record {
+      replies = rs;
+      chain = c;
+      all-groups = paged .all-groups;
+      all-steps = paged .all-steps;
+      begins = pages-begin s n t valid rs c;
+      whole-list = λ e.
+          record {
+            ended = f e;
+            pages = pages-listed s n t valid rs c (f e);
+            full-groups = paged .all-groups ∙ ap (λ (a : ℕ). held a) (all-groups s n t valid rs c (f e));
+            full-steps = (
+              allSteps rs,
+              chain-demand (rules (graphOf n t) s) n (lawful (graphOf n t) (lent-simple n t valid .loopless) s) rs c .whole (f e) .1,
+              paged .all-steps,
+            );
+          };
+    }
+
 module _ {n : ℕ} {t : List ℕ} {s : Settings} (valid : lent n t .fault ≡ 0) (proper : refuseSettings s ≡ 0) {p : Position} {g k : ℕ}
     (paged : Paged n t s p g k) (out : List ℕ) (work : ℕ) (room : 8 * n ≤ work) where
   abbrev R : Rules
@@ -121,26 +146,10 @@ module _ {n : ℕ} {t : List ℕ} {s : Settings} (valid : lent n t .fault ≡ 0)
         all-steps = held-more (allSteps (paged .replies)) (reply .steps) (paged .all-steps) (steps-more (paged .replies) reply);
       }
 
-  paged-ran : reply .stop ≡ stoppedFinished → Ran n t s (record { groups = held (g + reply .groups); steps = held (k + reply .steps) })
+  -- where it says Finished, the pages so far have ended the walk
+  paged-ended : reply .stop ≡ stoppedFinished → SomeFinished (paged-more .replies)
   unfolding paged-more
-  paged-ran e =
-      record {
-        replies = paged-more .replies;
-        chain = paged-more .chain;
-        ended = ended;
-        all-groups = paged-more .all-groups;
-        all-steps = paged-more .all-steps;
-        pages = pages-listed s n t valid (paged-more .replies) (paged-more .chain) ended;
-        full-groups = paged-more .all-groups ∙ ap (λ (a : ℕ). held a) (all-groups s n t valid (paged-more .replies) (paged-more .chain) ended);
-        full-steps = (
-          allSteps (paged-more .replies),
-          chain-demand R n law (paged-more .replies) (paged-more .chain) .whole ended .1,
-          paged-more .all-steps,
-        );
-      }
-    where
-      ended : SomeFinished (paged .replies ++ (reply ∷ []))
-      ended = ended-more (paged .replies) reply accepted e
+  paged-ended e = ended-more (paged .replies) reply accepted e
 
   -- where it does not say Finished, the walk was not finished, and so it makes a step
   paged-falls : reply .stop ≢ stoppedFinished → recordLength n ≤ length out → weight n (reply .position) < weight n p
@@ -170,16 +179,33 @@ module _ {n : ℕ} {t : List ℕ} {s : Settings} (valid : lent n t .fault ≡ 0)
       turned-paged =
           subst (λ (q : Position). Paged n t s q g' k') (sym (turned .position)) (subst₂ (λ (x y : ℕ). Paged n t s (reply .position) x y) same-groups same-steps paged-more)
 
-      pub turned-ran : r .finished ≡ true → Ran n t s (record { groups = g'; steps = k' })
-      turned-ran e =
-          subst₂ (λ (x y : ℕ). Ran n t s (record { groups = x; steps = y })) same-groups same-steps (paged-ran (eqb-true _ 1 (sym (turned .finished) ∙ e)))
+      pub turned-ran : (w : Bool) → (w ≡ true → r .finished ≡ true) → Ran n t s (record { groups = g'; steps = k'; whole = w })
+      turned-ran w f =
+          subst₂ (λ (x y : ℕ). Ran n t s (record { groups = x; steps = y; whole = w })) same-groups same-steps
+          (paged-ran valid paged-more w (λ e. paged-ended (eqb-true _ 1 (sym (turned .finished) ∙ f e))))
 
     pub turned-falls : r .finished ≡ false → recordLength n ≤ length out → weight n left < weight n p
     turned-falls e l = subst (λ (q : Position). weight n q < weight n p) (sym (turned .position)) (paged-falls (eqb-false _ 1 (sym (turned .finished) ∙ e)) l)
 
--- What the listing writes page by page, and its end line, are what the program prints.
+lines-begin : (s : Settings) (n : ℕ) (t : List ℕ) (xs out : List ℕ) → Begins xs (groupLines (graphOf n t) (fullSets (rules (graphOf n t) s) n))
+    → PrintsAt (listing s n t) out → Begins xs out
+unfolding PrintsAt
+lines-begin s n t xs out b p = (
+  b .0 ++ endLine (held (length (fullSets (rules (graphOf n t) s) n))) (held (p .0)),
+  p .2
+      ∙ ap (λ (l : List ℕ). l ++ endLine (held (length (fullSets (rules (graphOf n t) s) n))) (held (p .0))) (b .1)
+      ∙ append-assoc xs (b .0) (endLine (held (length (fullSets (rules (graphOf n t) s) n))) (held (p .0))),
+)
+
+-- What the listing hands to the writes is the beginning of what the program prints.
+pub ran-begins : (words : List (List ℕ)) (text : List ℕ) (s : Settings) (n : ℕ) (t : List ℕ) → programVerdict words text ≡ listing s n t
+    → {r : Listed} (ran : Ran n t s r) (out : List ℕ) → Prints words text out → Begins (printedPages (ran .replies)) out
+ran-begins words text s n t e ran out p =
+    lines-begin s n t (printedPages (ran .replies)) out (ran .begins) (subst (λ (x : Verdict). PrintsAt x out) e p)
+
+-- Where the list is whole, it and its end line are what the program prints.
 pub ran-prints : (words : List (List ℕ)) (text : List ℕ) (s : Settings) (n : ℕ) (t : List ℕ) → programVerdict words text ≡ listing s n t
-    → (r : Totals) (ran : Ran n t s r) → Prints words text (printedPages (ran .replies) ++ endLine (r .groups) (r .steps))
-ran-prints words text s n t e r ran =
+    → {r : Listed} (ran : Ran n t s r) → r .whole ≡ true → Prints words text (printedPages (ran .replies) ++ endLine (r .groups) (r .steps))
+ran-prints words text s n t e {r} ran w =
     subst (λ (l : List ℕ). Prints words text (printedPages (ran .replies) ++ l)) (ap₂ endLine (sym (ran .all-groups)) (sym (ran .all-steps)))
-    (pages-print words text s n t e (ran .replies) (ran .chain) (ran .ended))
+    (pages-print words text s n t e (ran .replies) (ran .chain) (ran .whole-list w .ended))

@@ -13,10 +13,10 @@ use Rattle.model.specs.Calls.{Call, refuseSettings, PageReply, replyTo}
 use Rattle.model.specs.Demand.{leftAt, allSteps, allGroups, SomeFinished}
 use Rattle.model.specs.Program.{groupLines, held}
 use Rattle.theory.specs.Replies.{Chain}
-use Rattle.theory.specs.Printed.{printed, printedPages}
+use Rattle.theory.specs.Printed.{printed, printedPages, Begins}
 use Rattle.graph.specs.Table.{lent, graphOf}
 use Rattle.listing.specs.declared.PageDone.{PageDone}
-use Rattle.listing.specs.declared.totals.Totals.{Totals}
+use Rattle.listing.specs.declared.totals.Listed.{Listed}
 use Rattle.print.specs.Put.{Puts}
 
 -- a page call with the largest budget
@@ -58,14 +58,21 @@ pub record Paged (n : ℕ) (t : List ℕ) (s : Settings) (p : Position) (groups 
   pub all-groups : groups ≡ held (allGroups replies)
   pub all-steps : steps ≡ held (allSteps replies)
 
--- The replies to page calls, from fresh on, of which one has said Finished: what is printed of them is a line for each group of the full list. The
--- totals are theirs, and so the number of groups of the full list and the walk's length, both held.
-pub record Ran (n : ℕ) (t : List ℕ) (s : Settings) (r : Totals) : Type 0 where
+-- The whole list: one of the replies has said Finished, what is printed of them is a line for each group of the full list, and the totals are the
+-- number of groups of the full list and the walk's length, both held.
+pub record WholeList (n : ℕ) (t : List ℕ) (s : Settings) (replies : List PageReply) (groups steps : ℕ) : Type 0 where
+  pub ended : SomeFinished replies
+  pub pages : printedPages replies ≡ groupLines (graphOf n t) (fullSets (rules (graphOf n t) s) n)
+  pub full-groups : groups ≡ held (length (fullSets (rules (graphOf n t) s) n))
+  pub full-steps : (k : ℕ) × (lasts (rules (graphOf n t) s) k (fresh n) ≡ true) × (steps ≡ held k)
+
+-- The replies to page calls, from fresh on, whose pages were handed to the writes: what is printed of them is the beginning of the list's lines, and
+-- where the list is said to be whole it is all of them. A list that was cut at a write that failed is never said to be whole before a page has said
+-- Finished; that the last page's own write is heeded too is in the code alone, since no contract can speak of a write.
+pub record Ran (n : ℕ) (t : List ℕ) (s : Settings) (r : Listed) : Type 0 where
   pub replies : List PageReply
   pub chain : Chain (rules (graphOf n t) s) (fresh n) replies
-  pub ended : SomeFinished replies
   pub all-groups : r .groups ≡ held (allGroups replies)
   pub all-steps : r .steps ≡ held (allSteps replies)
-  pub pages : printedPages replies ≡ groupLines (graphOf n t) (fullSets (rules (graphOf n t) s) n)
-  pub full-groups : r .groups ≡ held (length (fullSets (rules (graphOf n t) s) n))
-  pub full-steps : (k : ℕ) × (lasts (rules (graphOf n t) s) k (fresh n) ≡ true) × (r .steps ≡ held k)
+  pub begins : Begins (printedPages replies) (groupLines (graphOf n t) (fullSets (rules (graphOf n t) s) n))
+  pub whole-list : r .whole ≡ true → WholeList n t s replies (r .groups) (r .steps)

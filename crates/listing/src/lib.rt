@@ -1,21 +1,22 @@
-// The listing of a graph: page after page until one says Finished, each printed and written at once.
+// The listing of a graph: page after page until one says Finished or a write fails, each printed and written at once.
 pub mod totals;
 
 ghost use Prim.Native.Nat.{_*_, _≤_};
 ghost use lib.ListN.{length};
 ghost use Rattle.isolation.specs.Numbers.{settingsOf};
 ghost use Rattle.listing.specs.List.{Turned, ListBegins, Ran};
-use crate::totals::Totals;
+use crate::totals::Listed;
 use crate::totals::held_add;
 use isolation::Settings;
 use libc::STDOUT_FILENO;
 use print::print_entries;
 
-// Writes the first k bytes of a buffer to standard output.
-pub fn write_first(bytes: &[u8], k: usize)
+// Writes the first k bytes of a buffer to standard output, and answers whether all of them were written. No contract can speak of what is
+// written, so none is given; what follows from a failed write is in the contracts of those who call this.
+pub fn write_first(bytes: &[u8], k: usize) -> bool
     requires { ⌜ k ≤ length (now bytes) ⌝ }
 {
-    io::write_all(STDOUT_FILENO, &bytes[..k]);
+    io::write_all(STDOUT_FILENO, &bytes[..k])
 }
 
 // What a page brought: whether it said Finished, its groups and steps, and how many bytes are printed of it.
@@ -62,7 +63,8 @@ fn one_page(
     }
 }
 
-// Lists all groups of a graph from the fresh position on, and answers the totals. Each page makes a step, so this ends.
+// Lists all groups of a graph from the fresh position on, and answers the totals and whether the list is whole. At the first write that fails it
+// ends, and the list is cut. Each page makes a step, so this ends.
 pub fn list_all(
     table: &[u8],
     position: &mut [u8],
@@ -71,7 +73,7 @@ pub fn list_all(
     bytes: &mut [u8],
     n: usize,
     s: Settings,
-) -> Totals
+) -> Listed
     requires { ⌜ ListBegins n (now table) (settingsOf s) (now position) (now output) (now work) (now bytes) ⌝ }
     ensures { λ r. ⌜ Ran n (now (table .entry)) (settingsOf s) r ⌝ }
 {
@@ -79,11 +81,22 @@ pub fn list_all(
     let mut steps: u32 = 0;
     loop {
         let t = one_page(table, position, output, work, bytes, n, s);
-        write_first(bytes, t.printed);
+        let written = write_first(bytes, t.printed);
         groups = held_add(groups, t.groups);
         steps = held_add(steps, t.steps);
+        if !written {
+            return Listed {
+                groups,
+                steps,
+                whole: false,
+            };
+        }
         if t.finished {
-            return Totals { groups, steps };
+            return Listed {
+                groups,
+                steps,
+                whole: true,
+            };
         }
     }
 }

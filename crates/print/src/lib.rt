@@ -15,7 +15,7 @@ pub struct Printing {
 }
 
 // Puts the bytes of a word from a place on, and answers the place after them.
-fn put(bytes: &mut [u8], at: usize, word: &[u8]) -> usize
+pub fn put(bytes: &mut [u8], at: usize, word: &[u8]) -> usize
     requires { ⌜ at + length (now word) ≤ length (now bytes) ⌝ }
     ensures { λ r. ⌜ Puts (now (bytes .entry)) at (now (word .entry)) (now (bytes .exit)) r ⌝ }
 {

@@ -1,4 +1,4 @@
--- What a text is judged to be: too long, refused, or a graph. Assumes nothing.
+-- What a text is judged to be: too long, refused, or a graph; and the verdict on words and text. Assumes nothing.
 use Prim.Native.Nat.{ℕ, _*_, _^_, _≤_, _<_}
 use mathlib.Core.Path.{_≡_, refl, sym, ap, ap₂, _∙_, subst}
 use mathlib.Core.Bool.{Bool, true, false}
@@ -9,18 +9,23 @@ use native.Mathlib.Omega.{arith}
 use lib.ListN.{length, take, replicate, length-take, length-replicate}
 use lib.Dec.{ltb}
 use borrow.Author.Tests.{ltb-true, ltb-false}
-use Rattle.model.specs.Groups.{Settings}
+use Rattle.model.specs.Groups as groups
 use Rattle.model.specs.Text.{readText}
-use Rattle.model.specs.Program.{refusal, listing, reading, byReading, byWords, chosen}
-use Rattle.model.specs.Calls.{refuseTable}
+use Rattle.model.specs.Program.{Words, refusal, listing, reading, byReading, byWords, chosen, programVerdict}
+use Rattle.model.specs.Calls.{refuseTable, refuseSettings}
 use Rattle.theory.proofs.text.EdgeTextGraph.{read-table-accepted}
 use Rattle.theory.proofs.program.Program.{by-length, by-text, by-refusal, by-graph}
 use Rattle.graph.proofs.Refusals.{table-fits}
 use Rattle.dimacs.specs.declared.TextAnswer.{TextAnswer}
 use Rattle.dimacs.specs.Reply.{TextReplies}
+use Rattle.isolation.specs.Numbers.{settingsOf}
+use Rattle.isolation.specs.declared.Settings.{Settings}
 use Rattle.request.specs.declared.verdict.Verdict.{Verdict}
 use Rattle.request.specs.declared.verdict.Verdict.the-variants.{Refused, Listing}
-use Rattle.request.specs.Verdict.{Fine, Judged}
+use Rattle.request.specs.declared.words.Words.the-variants.{Wrong, Chosen}
+use Rattle.request.specs.Verdict.{Judged, Decides}
+use Rattle.request.specs.Words.{WordsRead}
+use Rattle.request.proofs.ReadWords.{words-said}
 
 below-257 : (n : ℕ) → n * n ≤ 65536 → n ≤ 256
 below-257 n h = go (ltb n 257) refl
@@ -30,21 +35,21 @@ below-257 n h = go (ltb n 257) refl
     go false e = let m = mul-le-mul-right n (ltb-false n 257 e) in absurd (omega (arith, ltb-false n 257 e))
 
 -- 41
-pub judged-long : {text table : List ℕ} → ltb 65536 (length text) ≡ true → Judged text table (Refused 41 0)
-judged-long {text} e = record { verdict = λ s. sym (by-length s text e); fine = tt }
+pub judged-long : (s : groups.Settings) {text table : List ℕ} → ltb 65536 (length text) ≡ true → Judged s text table (Refused 41 0)
+judged-long s {text} e = record { verdict = sym (by-length s text e); fine = tt }
 
-module _ (text : List ℕ) {before table : List ℕ} (zeros : before ≡ replicate 65536 0) (short : ltb 65536 (length text) ≡ false) {a : TextAnswer}
+module _ (s : groups.Settings) (text : List ℕ) {before table : List ℕ} (zeros : before ≡ replicate 65536 0) (short : ltb 65536 (length text) ≡ false) {a : TextAnswer}
     (replies : TextReplies (readText text before) table a) where
   -- the text is not too long, and so the reader decides
-  reader : (s : Settings) → byWords (chosen s) text ≡ byReading (readText text before .refused) s (readText text before)
+  reader : byWords (chosen s) text ≡ byReading (readText text before .refused) s (readText text before)
   unfolding reading
-  reader s = by-text s text short ∙ ap (λ (t : List ℕ). byReading (readText text t .refused) s (readText text t)) (sym zeros)
+  reader = by-text s text short ∙ ap (λ (t : List ℕ). byReading (readText text t .refused) s (readText text t)) (sym zeros)
 
   -- its refusal
-  pub judged-refused : a .refusal ≢ 0 → Judged text table (Refused (a .refusal) (a .line))
+  pub judged-refused : a .refusal ≢ 0 → Judged s text table (Refused (a .refusal) (a .line))
   judged-refused d =
       record {
-        verdict = λ s. sym (reader s ∙ by-refusal _ s _ (λ z. d (replies .refusal ∙ z)) ∙ ap₂ refusal (sym (replies .refusal)) (sym (replies .line)));
+        verdict = sym (reader ∙ by-refusal _ s _ (λ z. d (replies .refusal ∙ z)) ∙ ap₂ refusal (sym (replies .refusal)) (sym (replies .line)));
         fine = tt;
       }
 
@@ -57,25 +62,50 @@ module _ (text : List ℕ) {before table : List ℕ} (zeros : before ≡ replica
   read-fits e = let w = table-fits (a .vertices) (take (a .vertices * a .vertices) table) (read-accepted e) .whole in let l = length-take (a .vertices * a .vertices) table in omega arith
 
   -- its graph
-  pub judged-graph : length table ≡ length before → a .refusal ≡ 0 → Judged text table (Listing (a .vertices))
-  judged-graph long e =
-      record {
-        verdict = λ s.
-            sym
-            (reader s
-            ∙ by-graph _ s _ (sym (replies .refusal) ∙ e)
-            ∙ ap₂ (λ (n : ℕ) (t : List ℕ). listing s n (take (n * n) t)) (sym (replies .vertices)) (sym (replies .table)));
-        fine = (
-          below-257 (a .vertices) (let h = read-fits e in let z = long ∙ ap length zeros ∙ length-replicate {A = ℕ} 65536 0 in omega arith),
-          read-fits e,
-          read-accepted e,
-        );
-      }
+  read-graph : a .refusal ≡ 0 → listing s (a .vertices) (take (a .vertices * a .vertices) table) ≡ byWords (chosen s) text
+  read-graph e =
+      sym
+      (reader
+      ∙ by-graph _ s _ (sym (replies .refusal) ∙ e)
+      ∙ ap₂ (λ (n : ℕ) (t : List ℕ). listing s n (take (n * n) t)) (sym (replies .vertices)) (sym (replies .table)))
+
+  read-few : length table ≡ length before → a .refusal ≡ 0 → a .vertices ≤ 256
+  read-few long e = below-257 (a .vertices) (let h = read-fits e in let z = long ∙ ap length zeros ∙ length-replicate {A = ℕ} 65536 0 in omega arith)
+
+-- the graph of a text that is read, to be listed with settings that pass
+pub judged-graph : (s : Settings) → refuseSettings (settingsOf s) ≡ 0 → (text : List ℕ) {before table : List ℕ} → before ≡ replicate 65536 0
+    → ltb 65536 (length text) ≡ false → {a : TextAnswer} → TextReplies (readText text before) table a → length table ≡ length before → a .refusal ≡ 0
+    → Judged (settingsOf s) text table (Listing s (a .vertices))
+judged-graph s proper text zeros short replies long e =
+    record {
+      verdict = read-graph (settingsOf s) text zeros short replies e;
+      fine = (
+        read-few (settingsOf s) text zeros short replies long e,
+        read-fits (settingsOf s) text zeros short replies e,
+        read-accepted (settingsOf s) text zeros short replies e,
+        proper,
+      );
+    }
+
+-- ---- the verdict on words and text
+
+-- the words are refused
+pub decides-wrong : {count : ℕ} {a b c text table : List ℕ} {k : ℕ} → WordsRead count a b c (Wrong k) → Decides count a b c text table (Refused k 0)
+unfolding programVerdict byWords
+decides-wrong {text = text} w =
+    record { verdict = λ words h. ap (λ (x : Words). byWords x text) (words-said words _ _ _ _ _ h w); fine = tt }
+
+-- the words pass, and so the text decides
+pub decides-text : {count : ℕ} {a b c text table : List ℕ} {s : Settings} {r : Verdict} → WordsRead count a b c (Chosen s)
+    → Judged (settingsOf s) text table r → Decides count a b c text table r
+unfolding programVerdict
+decides-text {text = text} w j =
+    record {
+      verdict = λ words h. j .verdict ∙ ap (λ (x : Words). byWords x text) (words-said words _ _ _ _ _ h w);
+      fine = j .fine;
+    }
 
 -- ---- a graph that is to be listed
-
-pub graph-fine : {text table : List ℕ} {r : Verdict} {n : ℕ} → r ≡ Listing n → Judged text table r → Fine (Listing n) table
-graph-fine {text} {table} e j = subst (λ (v : Verdict). Fine v table) e (j .fine)
 
 pub small-square : (n : ℕ) → n ≤ 256 → n * n < 2 ^ 64
 small-square n h = let a = mul-le-mul-right n h in omega arith

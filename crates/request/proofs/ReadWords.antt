@@ -1,20 +1,22 @@
 -- The words as they were read: their count, the form of each, and then their bounds. Assumes nothing.
 use Prim.Native.Nat.{ℕ, zero, suc}
 use mathlib.Core.Path.{_≡_, refl, sym, ap, subst, _∙_}
-use mathlib.Core.Logic.{_≢_}
+use mathlib.Core.Logic.{_≢_, inl, inr}
 use mathlib.Core.List.{List, [], _∷_}
 use mathlib.Core.Option.{Option, none, some}
 use native.Mathlib.Omega.{arith}
+use lib.ListN.{length}
 use Rattle.model.specs.Groups as groups
 use Rattle.model.specs.Calls.{refuseSettings}
 use Rattle.model.specs.Text.{numberOf}
 use Rattle.model.specs.Program.{wrong, chosen, bounded, three, settingsOfWords}
 use Rattle.theory.proofs.program.Program.{not-three}
+use Rattle.number.proofs.Numbers.{number-empty, number-long}
 use Rattle.isolation.specs.Numbers as numbers
 use Rattle.isolation.specs.declared.Settings.{Settings}
 use Rattle.request.specs.declared.words.Words.{Words}
 use Rattle.request.specs.declared.words.Words.the-variants.{Wrong, Chosen}
-use Rattle.request.specs.Words.{Proper, WordsRead}
+use Rattle.request.specs.Words.{wordsOf, Proper, WordsRead, Held, Handed, passes, TextWanted}
 
 -- ---- what three words say
 
@@ -81,6 +83,31 @@ module _ {count : ℕ} {a b c : List ℕ} where
       pub read-chosen : k ≡ 0 → WordsRead count a b c (Chosen (record { notion = x; kind = y; factor = z }))
       read-chosen d = record { says = λ words l w. sym (bounded-chosen k _ d) ∙ by-bounds words w; proper = sym e ∙ d }
 
--- chosen settings have no fault
-pub chosen-proper : {count : ℕ} {a b c : List ℕ} {r : Words} {s : Settings} → r ≡ Chosen s → WordsRead count a b c r → refuseSettings (numbers.settingsOf s) ≡ 0
-chosen-proper e w = subst Proper e (w .proper)
+-- by what they are read as
+pub read-words : {count : ℕ} {a b c : List ℕ} {r q : Words} → r ≡ q → WordsRead count a b c r → WordsRead count a b c q
+read-words {count} {a} {b} {c} e w = subst (λ (x : Words). WordsRead count a b c x) e w
+
+-- ---- words as they are handed over
+
+held-number : {word a : List ℕ} → Held word a → numberOf a ≡ numberOf word
+held-number (inl e) = ap numberOf e
+held-number {word} {a} (inr h) = sym (number-empty a (ap length (h .1))) ∙ number-long word (omega arith)
+
+same-numbers : (a b c x y z : List ℕ) → numberOf a ≡ numberOf x → numberOf b ≡ numberOf y → numberOf c ≡ numberOf z
+    → settingsOfWords (a ∷ b ∷ c ∷ []) ≡ settingsOfWords (x ∷ y ∷ z ∷ [])
+unfolding settingsOfWords
+same-numbers a b c x y z p q r = λ i. three (p i) (q i) (r i)
+
+-- the words are read as the definition says
+pub words-said : (words : List (List ℕ)) (count : ℕ) (a b c : List ℕ) (r : Words) → Handed words count a b c → WordsRead count a b c r → wordsOf r ≡ settingsOfWords words
+words-said [] count a b c r h w = w .says [] (h .counted) (λ e. absurd (omega (arith, h .counted)))
+words-said (x ∷ []) count a b c r h w = w .says (x ∷ []) (h .counted) (λ e. absurd (omega (arith, h .counted)))
+words-said (x ∷ y ∷ []) count a b c r h w = w .says (x ∷ y ∷ []) (h .counted) (λ e. absurd (omega (arith, h .counted)))
+words-said (x ∷ y ∷ z ∷ []) count a b c r h w =
+    w .says (a ∷ b ∷ c ∷ []) (h .counted) (λ e. refl)
+    ∙ same-numbers a b c x y z (held-number (h .first x y z refl)) (held-number (h .second x y z refl)) (held-number (h .third x y z refl))
+words-said (x ∷ y ∷ z ∷ v ∷ vs) count a b c r h w = w .says (x ∷ y ∷ z ∷ v ∷ vs) (h .counted) (λ e. absurd (omega (arith, h .counted)))
+
+-- and so the text is wanted where they pass
+pub wanted-said : {count : ℕ} {a b c : List ℕ} {r : Words} → WordsRead count a b c r → TextWanted count a b c (passes (wordsOf r))
+wanted-said w words h = ap passes (words-said words _ _ _ _ _ h w)

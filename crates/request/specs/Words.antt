@@ -1,6 +1,8 @@
--- What the reader of the program's words promises. Assumes nothing.
-use Prim.Native.Nat.{ℕ}
+-- What the readers of the program's words promise. Assumes nothing.
+use Prim.Native.Nat.{ℕ, _<_}
 use mathlib.Core.Path.{_≡_}
+use mathlib.Core.Bool.{Bool, true, false}
+use mathlib.Core.Logic.{_⊎_}
 use mathlib.Core.List.{List, [], _∷_}
 use lib.ListN.{length}
 use Rattle.model.specs.Calls.{refuseSettings}
@@ -23,3 +25,23 @@ Proper (Chosen s) = refuseSettings (settingsOf s) ≡ 0
 pub record WordsRead (count : ℕ) (a b c : List ℕ) (r : Words) : Type 0 where
   pub says : (words : List (List ℕ)) → length words ≡ count → (count ≡ 3 → words ≡ a ∷ b ∷ c ∷ []) → wordsOf r ≡ program.settingsOfWords words
   pub proper : Proper r
+
+-- a word as a buffer of 8 bytes holds it: itself, or nothing where it is longer
+abbrev pub Held : List ℕ → List ℕ → Type 0
+Held word a = (a ≡ word) ⊎ ((8 < length word) × (a ≡ []))
+
+-- the program's words, of which the first three stand in a, b and c
+pub record Handed (words : List (List ℕ)) (count : ℕ) (a b c : List ℕ) : Type 0 where
+  pub counted : length words ≡ count
+  pub first : (x y z : List ℕ) → words ≡ x ∷ y ∷ z ∷ [] → Held x a
+  pub second : (x y z : List ℕ) → words ≡ x ∷ y ∷ z ∷ [] → Held y b
+  pub third : (x y z : List ℕ) → words ≡ x ∷ y ∷ z ∷ [] → Held z c
+
+-- the words pass
+abbrev pub passes : program.Words → Bool
+passes (program.wrong k) = false
+passes (program.chosen s) = true
+
+-- the text is wanted exactly where the words pass
+abbrev pub TextWanted : ℕ → List ℕ → List ℕ → List ℕ → Bool → Type 0
+TextWanted count a b c r = (words : List (List ℕ)) → Handed words count a b c → r ≡ passes (program.settingsOfWords words)

@@ -1,5 +1,5 @@
 // The program's words: notion, kind and factor.
-ghost use Rattle.request.specs.Words.{WordsRead};
+ghost use Rattle.request.specs.Words.{WordsRead, TextWanted};
 use isolation::Settings;
 use number::Field;
 use number::number;
@@ -37,4 +37,18 @@ pub fn settings_of(count: usize, a: &[u8], b: &[u8], c: &[u8]) -> Words
         return Words::Wrong(refusal);
     }
     Words::Chosen(s)
+}
+
+// Whether the text decides: the words pass. Where they are refused nothing is read.
+pub fn wants_text(count: usize, a: &[u8], b: &[u8], c: &[u8]) -> bool
+    ensures { λ r. ⌜ TextWanted count (now (a .entry)) (now (b .entry)) (now (c .entry)) r ⌝ }
+{
+    match settings_of(count, a, b, c) {
+        Words::Wrong(_) => {
+            return false;
+        }
+        Words::Chosen(_) => {
+            return true;
+        }
+    }
 }

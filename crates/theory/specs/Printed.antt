@@ -1,6 +1,7 @@
 -- Document 01, "One set, one text, one program", as code computes it: what is printed of a page's output entries, one entry after another.
 -- Assumes nothing.
 use Prim.Native.Nat.{ℕ, zero, suc}
+use mathlib.Core.Path.{_≡_}
 use mathlib.Core.List.{List, [], _∷_, _++_}
 use lib.ListN.{take}
 use Rattle.model.specs.Calls.{PageReply}
@@ -23,3 +24,7 @@ printed es = printedFrom 0 es
 unfoldable pub printedPages : List PageReply → List ℕ
 printedPages [] = []
 printedPages (r ∷ rs) = printed (take (r .used) (r .output)) ++ printedPages rs
+
+-- the bytes xs are the first of ys
+abbrev pub Begins : List ℕ → List ℕ → Type 0
+Begins xs ys = (rest : List ℕ) × (ys ≡ xs ++ rest)

@@ -1,6 +1,7 @@
 -- `listing::list_all` meets its contract. The loop keeps the replies so far; the weight of the position falls, since each page makes a step.
 -- Assumes nothing.
 use mathlib.Core.Path.{_≡_, refl, _∙_}
+use mathlib.Core.Bool.{true, false, false≢true}
 use native.Mathlib.Omega.{arith}
 use lib.ListN.{length}
 use Rattle.theory.proofs.walk.Ends.{weight}
@@ -35,21 +36,28 @@ returns c =
     let o = c .before .before .before .before .before .before .before .before .before .before .before .before .before in
     let l = o .before .before .before .before .before in
     let b = l .before .before .before .before .before .before .pre in
-    turned-ran (b .no-fault) (b .settings) (l .loop .inv .0) _ _ (omega (arith, b .room, l .loop .inv .3)) (o .one-page .ensures) (c .before .before .held-add .ensures) (c .before .held-add2 .ensures) (c .if1 .taken)
+    turned-ran (b .no-fault) (b .settings) (l .loop .inv .0) _ _ (omega (arith, b .room, l .loop .inv .3)) (o .one-page .ensures) (c .before .before .held-add .ensures) (c .before .held-add2 .ensures) false (λ e. absurd (false≢true e))
+
+returns-2 : tie.Need-returns-2 Inv-loop μ-loop
+returns-2 c =
+    let o = c .before .before .before .before .before .before .before .before .before .before .before .before .before .before in
+    let l = o .before .before .before .before .before in
+    let b = l .before .before .before .before .before .before .pre in
+    turned-ran (b .no-fault) (b .settings) (l .loop .inv .0) _ _ (omega (arith, b .room, l .loop .inv .3)) (o .one-page .ensures) (c .before .before .before .held-add .ensures) (c .before .before .held-add2 .ensures) true (λ e. c .if2 .taken)
 
 loop-less : tie.Need-loop-less Inv-loop μ-loop
 loop-less c =
-    let o = c .before .before .before .before .before .before .before .before .before .before .before .before .before in
+    let o = c .before .before .before .before .before .before .before .before .before .before .before .before .before .before in
     let l = o .before .before .before .before .before in
     let b = l .before .before .before .before .before .before .pre in
-    turned-falls (b .no-fault) (b .settings) (l .loop .inv .0) _ _ (omega (arith, b .room, l .loop .inv .3)) (o .one-page .ensures) (c .if1 .left) (omega (arith, b .output, l .loop .inv .2))
+    turned-falls (b .no-fault) (b .settings) (l .loop .inv .0) _ _ (omega (arith, b .room, l .loop .inv .3)) (o .one-page .ensures) (c .if2 .left) (omega (arith, b .output, l .loop .inv .2))
 
 loop-again : tie.Need-loop-again Inv-loop μ-loop
 loop-again c =
-    let o = c .before .before .before .before .before .before .before .before .before .before .before .before .before in
+    let o = c .before .before .before .before .before .before .before .before .before .before .before .before .before .before in
     let l = o .before .before .before .before .before in
     let b = l .before .before .before .before .before .before .pre in (
-      turned-paged (b .no-fault) (b .settings) (l .loop .inv .0) _ _ (omega (arith, b .room, l .loop .inv .3)) (o .one-page .ensures) (c .before .before .held-add .ensures) (c .before .held-add2 .ensures),
+      turned-paged (b .no-fault) (b .settings) (l .loop .inv .0) _ _ (omega (arith, b .room, l .loop .inv .3)) (o .one-page .ensures) (c .before .before .before .held-add .ensures) (c .before .before .held-add2 .ensures),
       o .one-page .kept .1 .0 ∙ l .loop .inv .1,
       o .one-page .kept .1 .1 .0 ∙ l .loop .inv .2,
       o .one-page .kept .1 .1 .1 .0 ∙ l .loop .inv .3,
@@ -60,4 +68,5 @@ pub list-all-spec : {M : Type 1} → statement M
 list-all-spec =
     tie.close
     (tie.spec Inv-loop μ-loop loop-holds (λ c κs. search needs) write-first-requires (λ c κs. search needs) (λ c κs. search needs) (λ c. search needs)
-    (λ c. search needs) (λ c. search needs) (λ c. search needs) returns loop-less loop-again)
+    (λ c. search needs) (λ c. search needs) (λ c. search needs) returns (λ c. search needs) (λ c. search needs) (λ c. search needs) (λ c. search needs)
+    returns-2 loop-less loop-again)

@@ -44,6 +44,14 @@ module _ (G : Graph) (s : Settings) where
   records-printed ps =
       ap printed (sym (append-nil (records (rules G s) ps))) ∙ records-then ps [] ∙ append-nil (groupLines G ps)
 
+  -- the lines of groups one after the other
+  pub lines-append : (ps qs : List Position) → groupLines G (ps ++ qs) ≡ groupLines G ps ++ groupLines G qs
+  unfolding groupLines
+  lines-append [] qs = refl
+  lines-append (p ∷ ps) qs =
+      ap (λ (l : List ℕ). groupLine (takenList G p) ++ l) (lines-append ps qs)
+      ∙ sym (append-assoc (groupLine (takenList G p)) (groupLines G ps) (groupLines G qs))
+
   -- so the full list is printed as a line for each of its groups
   pub list-printed : (n : ℕ) → printed (fullList (rules G s) n) ≡ groupLines G (fullSets (rules G s) n)
   unfolding fullList

@@ -20,13 +20,13 @@ use Rattle.model.specs.Demand.{allSteps, allGroups, SomeFinished, Demand3}
 use Rattle.model.specs.Text.{numberOf, TextReply}
 use Rattle.model.specs.Program.{Words, wrong, chosen, Verdict, refusal, listing, bounded, three, settingsOfWords, groupLines, held, endLine, refusedLine, reading, byReading, byWords, programVerdict, PrintsAt, Prints}
 use Rattle.theory.specs.Replies.{Chain}
-use Rattle.theory.specs.Printed.{printed, printedPages}
+use Rattle.theory.specs.Printed.{printed, printedPages, Begins}
 use Rattle.theory.proofs.walk.Ends.{walk-ends, length-once}
 use Rattle.theory.proofs.walk.Walk.{records-append}
 use Rattle.theory.proofs.calls.TableFaults.{table-simple}
 use Rattle.theory.proofs.calls.Pages.{chain-demand}
 use Rattle.theory.proofs.walk.Lawful.{lawful}
-use Rattle.theory.proofs.program.Printed.{list-printed, pages-printed}
+use Rattle.theory.proofs.program.Printed.{list-printed, lines-append, pages-printed, records-printed}
 use Rattle.theory.proofs.text.EdgeTextGraph.{read-table-accepted}
 
 -- ---- refusals
@@ -171,35 +171,47 @@ no-records G s [] e = refl
 no-records G s (p ∷ ps) e = absurd (omega arith)
 
 module _ (s : Settings) (n : ℕ) (t : List ℕ) (valid : refuseTable n t ≡ 0) (rs : List PageReply)
-    (chain : Chain (rules (byTable n t) s) (fresh n) rs) (ended : SomeFinished rs) where
+    (chain : Chain (rules (byTable n t) s) (fresh n) rs) where
   demand : Demand3 (rules (byTable n t) s) n rs
   demand = chain-demand (rules (byTable n t) s) n (lawful (byTable n t) (table-simple n t valid .loopless) s) rs chain
 
-  -- replies that end the walk have reported every group
-  pub all-groups : allGroups rs ≡ length (fullSets (rules (byTable n t) s) n)
-  unfolding fullList
-  all-groups =
-      let R = rules (byTable n t) s in
-      let d = demand .listed in
-      let a = ap length (sym (d .entries) ∙ demand .whole ended .0 ∙ ap (records R) (d .first) ∙ records-append R (d .front) (d .rest)) in
-      let b = length-append (records R (d .front)) (records R (d .rest)) in
-      let z = no-records (byTable n t) s (d .rest) (omega arith) in
-      let c = ap length (d .first) ∙ length-append (d .front) (d .rest) in
-      let g = d .number in
-      omega arith
+  -- replies from fresh on print page by page the first lines of the list
+  pub pages-begin : Begins (printedPages rs) (groupLines (byTable n t) (fullSets (rules (byTable n t) s) n))
+  pages-begin =
+      let G = byTable n t in
+      let d = demand .listed in (
+        groupLines G (d .rest),
+        ap (groupLines G) (d .first)
+            ∙ lines-append G s (d .front) (d .rest)
+            ∙ ap (λ (l : List ℕ). l ++ groupLines G (d .rest)) (sym (pages-printed G s rs (fresh n) chain ∙ ap printed (d .entries) ∙ records-printed G s (d .front))),
+      )
 
-  -- and print page by page a line for each group of the full list
-  pub pages-listed : printedPages rs ≡ groupLines (byTable n t) (fullSets (rules (byTable n t) s) n)
-  pages-listed = pages-printed (byTable n t) s rs (fresh n) chain ∙ ap printed (demand .whole ended .0) ∙ list-printed (byTable n t) s n
+  module _ (ended : SomeFinished rs) where
+    -- replies that end the walk have reported every group
+    pub all-groups : allGroups rs ≡ length (fullSets (rules (byTable n t) s) n)
+    unfolding fullList
+    all-groups =
+        let R = rules (byTable n t) s in
+        let d = demand .listed in
+        let a = ap length (sym (d .entries) ∙ demand .whole ended .0 ∙ ap (records R) (d .first) ∙ records-append R (d .front) (d .rest)) in
+        let b = length-append (records R (d .front)) (records R (d .rest)) in
+        let z = no-records (byTable n t) s (d .rest) (omega arith) in
+        let c = ap length (d .first) ∙ length-append (d .front) (d .rest) in
+        let g = d .number in
+        omega arith
 
-  at-pages : PrintsAt (listing s n t) (printedPages rs ++ endLine (held (allGroups rs)) (held (allSteps rs)))
-  unfolding PrintsAt
-  at-pages = (
-    allSteps rs,
-    demand .whole ended .1,
-    ap₂ {C = List ℕ} (λ l r. l ++ r)
-        pages-listed (ap (λ (g : ℕ). endLine (held g) (held (allSteps rs))) all-groups),
-  )
+    -- and print page by page a line for each group of the full list
+    pub pages-listed : printedPages rs ≡ groupLines (byTable n t) (fullSets (rules (byTable n t) s) n)
+    pages-listed = pages-printed (byTable n t) s rs (fresh n) chain ∙ ap printed (demand .whole ended .0) ∙ list-printed (byTable n t) s n
+
+    at-pages : PrintsAt (listing s n t) (printedPages rs ++ endLine (held (allGroups rs)) (held (allSteps rs)))
+    unfolding PrintsAt
+    at-pages = (
+      allSteps rs,
+      demand .whole ended .1,
+      ap₂ {C = List ℕ} (λ l r. l ++ r)
+          pages-listed (ap (λ (g : ℕ). endLine (held g) (held (allSteps rs))) all-groups),
+    )
 
 -- replies to page calls from fresh on, of which one has said Finished, print page by page what the program prints
 pub pages-print : (words : List (List ℕ)) (text : List ℕ) (s : Settings) (n : ℕ) (t : List ℕ) → programVerdict words text ≡ listing s n t

@@ -1,18 +1,19 @@
--- `cli::program::program` is safe: chosen settings have no fault. Assumes nothing.
-use Rattle.request.proofs.ReadWords.{chosen-proper}
+-- `cli::program::program` is safe, and hands on what its functions ask for: the bytes that were read are within their buffer, and a graph that is to be
+-- listed has no fault. Assumes nothing.
+use mathlib.Core.Path.{sym}
+use lib.Seq.{length-take-le}
 use borrow.Author.Needs.{needs}
 use Rattle.cli.proofs.program.program.Statement.{statement}
 use Rattle.cli.proofs.program.program.Tie as tie
 
-answer-requires : tie.Need-answer-requires
-answer-requires c κs = chosen-proper (c .before .s .given .1) (c .before .before .before .settings-of .ensures)
-
-returns-2 : tie.Need-returns-2
-returns-2 c = search needs
+slice-aggregate-decide-4 : tie.Need-slice-aggregate-decide-4
+slice-aggregate-decide-4 c = sym (length-take-le _ _ (c .before .before .before .before .before .before .read-wanted .ensures))
 
 pub program-spec : {M : Type 1} → statement M
 program-spec =
     tie.close
     (tie.spec (λ c. search needs) (λ c κs. search needs) (λ c. search needs) (λ c κs. search needs) (λ c. search needs) (λ c κs. search needs)
     (λ c κs. search needs) (λ c κs. search needs) (λ c. search needs) (λ c. search needs) (λ c. search needs) (λ c. search needs) (λ c. search needs)
-    (λ c. search needs) (λ c κs. search needs) (λ c. search needs) (λ c κs. search needs) (λ c. search needs) answer-requires (λ c. search needs) returns-2)
+    (λ c. search needs) (λ c κs. search needs) (λ c. search needs) (λ c κs. search needs) (λ c. search needs) (λ c. search needs) (λ c. search needs)
+    (λ c. search needs) (λ c. search needs) (λ c. search needs) (λ c. search needs) (λ c. search needs) slice-aggregate-decide-4 (λ c. search needs)
+    (λ c κs. search needs) (λ c κs. search needs) (λ c. search needs) (λ c. search needs) (λ c κs. search needs) (λ c. search needs))

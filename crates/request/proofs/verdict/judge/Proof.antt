@@ -9,7 +9,7 @@ use Rattle.request.proofs.verdict.judge.Statement.{statement}
 use Rattle.request.proofs.verdict.judge.Tie as tie
 
 returns : tie.Need-returns
-returns c = judged-long (sym (c .before .text-too-long .ensures) ∙ c .if1 .taken)
+returns c = judged-long _ (sym (c .before .text-too-long .ensures) ∙ c .if1 .taken)
 
 -- past the first test the text is not too long
 short : (c : tie.Else1) → ltb 65536 (length (c .before .before .before .before .args .text .now)) ≡ false
@@ -19,13 +19,14 @@ returns-2 : tie.Need-returns-2
 returns-2 c =
     let r = c .before .before .before .before in
     let e = r .before .before in
-    judged-refused _ (e .before .before .before .before .pre) (short e) (r .read-text .ensures) (c .if2 .taken)
+    judged-refused _ _ (e .before .before .before .before .pre .1) (short e) (r .read-text .ensures) (c .if2 .taken)
 
 returns-3 : tie.Need-returns-3
 returns-3 c =
     let r = c .before .before .before .before .before in
     let e = r .before .before in
-    judged-graph _ (e .before .before .before .before .pre) (short e) (r .read-text .ensures) (r .read-text .kept .1 .0) (c .before .if2 .left)
+    let b = e .before .before .before .before in
+    judged-graph (b .args .s) (b .pre .0) _ (b .pre .1) (short e) (r .read-text .ensures) (r .read-text .kept .1 .0) (c .before .if2 .left)
 
 pub judge-spec : {M : Type 1} → statement M
 judge-spec =

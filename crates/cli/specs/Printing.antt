@@ -1,0 +1,35 @@
+-- What the program prints, as far as its functions promise it: the bytes that are handed to the writes, in their order. Assumes nothing.
+use Prim.Native.Nat.{ℕ, _*_}
+use mathlib.Core.Path.{_≡_}
+use mathlib.Core.Bool.{true}
+use mathlib.Core.List.{List, [], _++_}
+use lib.ListN.{take}
+use Rattle.model.specs.Program.{settingsOfWords, programVerdict, Prints}
+use Rattle.theory.specs.Printed.{printedPages, Begins}
+use Rattle.listing.specs.declared.totals.Listed.{Listed}
+use Rattle.request.specs.declared.verdict.Verdict.{Verdict}
+use Rattle.request.specs.declared.verdict.Verdict.the-variants.{Refused, Listing}
+use Rattle.request.specs.Verdict.{verdictOf}
+use Rattle.request.specs.Words.{passes}
+use Rattle.cli.specs.Ending.{lastLine, ListedBy}
+
+-- what is read of a text: its first 65,537 bytes, where the words pass; else nothing is read, and it may be anything
+abbrev pub ReadOf : List (List ℕ) → List ℕ → List ℕ → Type 0
+ReadOf words text read = passes (settingsOfWords words) ≡ true → read ≡ take 65537 text
+
+-- what is printed of the pages that a verdict asks for, page by page
+abbrev pub pagesOf : (v : Verdict) (t : List ℕ) (l : Listed) → ListedBy v t l → List ℕ
+pagesOf (Refused k line) t l h = []
+pagesOf (Listing s n) t l h = printedPages (h .replies)
+
+-- nothing was cut: it is a refusal, or its list is whole
+abbrev pub Uncut : Verdict → Listed → Type 0
+Uncut (Refused k line) l = Unit {0}
+Uncut (Listing s n) l = l .whole ≡ true
+
+-- The verdict is document 01's. Where nothing was cut, what is handed to the writes, the pages and then the last line, is what document 01 says. Where the
+-- list was cut, there is no last line, and the pages are the beginning of what document 01 says.
+pub record PrintsAsSaid (words : List (List ℕ)) (text : List ℕ) (v : Verdict) (t : List ℕ) (l : Listed) (listed : ListedBy v t l) : Type 0 where
+  pub verdict : verdictOf v t ≡ programVerdict words text
+  pub uncut : Uncut v l → Prints words text (pagesOf v t l listed ++ lastLine v l)
+  pub cut : (Uncut v l → ⊥) → (lastLine v l ≡ []) × ((out : List ℕ) → Prints words text out → Begins (pagesOf v t l listed) out)
