@@ -5,14 +5,44 @@
  * isolated_set_query() says whether one set is such a group; isolated_read_text() reads a graph in the DIMACS
  * edge layout. No call allocates, keeps anything between two calls or touches memory other than what it is lent.
  * Every reply, and the contents of all lent memory after the call, follow from the arguments alone; the one
- * exception is the contents of an accepted work slice, which are left open. Link with target/staticlib/libffi.a,
- * which `rt staticlib ffi` proves and writes (x86-64).
+ * exception is the contents of an accepted work slice, which are left open.
+ *
+ * Linking (x86-64)
+ *   After `./install PREFIX`, and with PREFIX/lib/pkgconfig in PKG_CONFIG_PATH where it is not looked up anyway:
+ *     cc program.c $(pkg-config --cflags --libs isolated)
+ *   At the top of the repository, after `tools/library`, which proves and builds the archive:
+ *     cc -Iinclude program.c target/lib/libisolated.a
  *
  * How memory is lent
  *   A slice is passed as a pointer and then its length in ELEMENTS (not bytes). Entries of output and work are
- *   16-bit numbers, and their pointers must be aligned for uint16_t. A null pointer is not allowed, not even
- *   with length 0: pass the address of any object of the entry's type then, for instance of a local variable.
- *   Memory that a call may write must not overlap any other memory lent to the same call.
+ *   16-bit numbers, and their pointers must be aligned for uint16_t. With length 0 the pointer may be null, as the
+ *   data() of an empty C++ vector is: no call looks at the pointer of an empty slice, or through it. That is tested
+ *   of this archive, for each slice of each call, and not proved. With any other length the pointer must lead to
+ *   that many elements, also where the call is refused. Memory that a call may write must not overlap any other
+ *   memory lent to the same call.
+ *
+ * Threads
+ *   The library has no variables of its own and takes no lock. Calls may run at once in any number of threads, as
+ *   long as memory that one of them may write is neither lent to another nor touched by anybody meanwhile. What
+ *   calls only read may be lent to several at once while nobody writes it: one table serves many walks, each with a
+ *   position, output and work of its own. The pages of one walk follow one another, in whichever threads.
+ *
+ * Time
+ *   Each isolated_page() and each isolated_set_query() tests the whole table again and counts the degrees: time in
+ *   proportion to n * n, whatever the budget. For a page on a sparse graph that is as long as some n * n / 2 steps,
+ *   so with budgets much below n * n most of the time goes into these tests.
+ *   A step takes time in proportion to n at most, and how many steps a walk has follows from the graph and c alone.
+ *   Where all ranks are decided the taken set is tested before the step. Under ISOLATED_AVG and ISOLATED_MAX with
+ *   ISOLATED_MAXIMAL_ISOLATED that test may search the common neighbours of an isolated clique, of which there are
+ *   fewer than c; its time is exponential in their number in the worst case. Any other test of a taken set takes
+ *   time in proportion to n * c at most. So a budget bounds the time of a page but for these searches.
+ *   isolated_set_query() has no budget and makes at most one such search. isolated_read_text() takes time in
+ *   proportion to the text's length and N * N.
+ *
+ * Stack
+ *   No call uses more than ISOLATED_STACK bytes of stack, whatever its arguments. Most is used by the search above,
+ *   which calls itself for each vertex that it adds: at most min(c, n - c) - 1 at a time, and so at most 511. That is
+ *   tested of this archive, in a thread of that size with a graph that takes the search so deep, and not proved.
  *
  * The graph
  *   n vertices, 0 to n - 1, n at most 1,024. The table is n * n bytes, row by row: byte u * n + v is 1 where u
@@ -39,12 +69,21 @@
 extern "C" {
 #endif
 
+/* The version of this header and of the archive that belongs to it, by numbers and as text. */
+#define ISOLATED_VERSION_MAJOR 0
+#define ISOLATED_VERSION_MINOR 1
+#define ISOLATED_VERSION_PATCH 0
+#define ISOLATED_VERSION "0.1.0"
+
 /* The most vertices of a graph, and the largest factor. */
 #define ISOLATED_VERTICES 1024
 #define ISOLATED_FACTOR 1024
 
 /* The entries that a work slice needs for n vertices. */
 #define ISOLATED_WORK(n) (8 * (size_t)(n))
+
+/* The bytes of stack that no call exceeds. */
+#define ISOLATED_STACK 196608
 
 /* Notions of isolation. */
 #define ISOLATED_MIN 0
@@ -69,39 +108,81 @@ extern "C" {
 /* Accepted. */
 #define ISOLATED_REFUSED_NOT 0
 
-/* Refusals of isolated_page() and isolated_set_query(), tested in this order: the lowest number is told. */
-#define ISOLATED_REFUSED_VERTICES 1     /* n is over 1,024 */
-#define ISOLATED_REFUSED_TABLE_LENGTH 2 /* the table's length is not n * n */
-#define ISOLATED_REFUSED_TABLE_BYTE 3   /* a table byte is neither 0 nor 1 */
-#define ISOLATED_REFUSED_DIAGONAL 4     /* a vertex is joined to itself */
-#define ISOLATED_REFUSED_SYMMETRY 5     /* the table is not symmetric */
-#define ISOLATED_REFUSED_NOTION 6       /* notion is over 2 */
-#define ISOLATED_REFUSED_KIND 7         /* kind is over 1 */
-#define ISOLATED_REFUSED_FACTOR 8       /* c is 0 or over 1,024 */
-#define ISOLATED_REFUSED_LENGTH 9       /* the position's or the set's length is not n */
-#define ISOLATED_REFUSED_WORK 10        /* the work slice has fewer than 8 * n entries */
-#define ISOLATED_REFUSED_SET_BYTE 11    /* isolated_set_query() only: a set byte is over 1 */
+/* Refusals of isolated_page() and isolated_set_query(), tested in this order: the lowest number is told.
+   The last is isolated_set_query()'s alone. isolated_refusal_text() below says what each refusal means. */
+#define ISOLATED_REFUSED_VERTICES 1
+#define ISOLATED_REFUSED_TABLE_LENGTH 2
+#define ISOLATED_REFUSED_TABLE_BYTE 3
+#define ISOLATED_REFUSED_DIAGONAL 4
+#define ISOLATED_REFUSED_SYMMETRY 5
+#define ISOLATED_REFUSED_NOTION 6
+#define ISOLATED_REFUSED_KIND 7
+#define ISOLATED_REFUSED_FACTOR 8
+#define ISOLATED_REFUSED_LENGTH 9
+#define ISOLATED_REFUSED_WORK 10
+#define ISOLATED_REFUSED_SET_BYTE 11
 
 /* Refusals of isolated_page() alone, tested after those above and in this order. */
-#define ISOLATED_REFUSED_POSITION_BYTE 21  /* a position byte is over 2 */
-#define ISOLATED_REFUSED_POSITION_ORDER 22 /* a decided rank stands after an open one */
-#define ISOLATED_REFUSED_POSITION_DEAD 23  /* the position with its last decided rank opened is dead */
+#define ISOLATED_REFUSED_POSITION_BYTE 21
+#define ISOLATED_REFUSED_POSITION_ORDER 22
+#define ISOLATED_REFUSED_POSITION_DEAD 23
 
 /* Refusals of isolated_read_text(): of the first faulty line, and in that line in the order
    31, 33, 34, 32, 35, 40, 36, 37, 38; at the end of the text 33, then 39. */
-#define ISOLATED_REFUSED_LINE_START 31    /* empty line, first letter not c, p or e, or no space after it */
-#define ISOLATED_REFUSED_FORM 32          /* another fault of form */
-#define ISOLATED_REFUSED_NO_P_LINE 33     /* an e line before any p line, or no p line at all */
-#define ISOLATED_REFUSED_SECOND_P_LINE 34 /* a second p line */
-#define ISOLATED_REFUSED_TEXT_VERTICES 35 /* N is over 1,024 */
-#define ISOLATED_REFUSED_RANGE 36         /* U or V is 0 or over N */
-#define ISOLATED_REFUSED_SAME_VERTEX 37   /* U equals V */
-#define ISOLATED_REFUSED_REPEATED_PAIR 38 /* the pair stood before, in this direction or the other */
-#define ISOLATED_REFUSED_EDGE_COUNT 39    /* M differs from the number of e lines */
-#define ISOLATED_REFUSED_TABLE_SHORT 40   /* the table has fewer than N * N bytes */
+#define ISOLATED_REFUSED_LINE_START 31
+#define ISOLATED_REFUSED_FORM 32
+#define ISOLATED_REFUSED_NO_P_LINE 33
+#define ISOLATED_REFUSED_SECOND_P_LINE 34
+#define ISOLATED_REFUSED_TEXT_VERTICES 35
+#define ISOLATED_REFUSED_RANGE 36
+#define ISOLATED_REFUSED_SAME_VERTEX 37
+#define ISOLATED_REFUSED_REPEATED_PAIR 38
+#define ISOLATED_REFUSED_EDGE_COUNT 39
+#define ISOLATED_REFUSED_TABLE_SHORT 40
 
-/* Told by the program `isolated` only, by no call: the text is over 65,536 bytes. */
+/* Told by the program `isolated` only, by no call. */
 #define ISOLATED_REFUSED_TEXT_LENGTH 41
+
+/*
+ * isolated_refusal_text(): what a refusal means, in a sentence.
+ *
+ *   refusal  a number that an answer holds or that the program `isolated` printed.
+ *
+ * Returns a text that is never freed and has no full stop: "accepted" for 0, and "no refusal has this number" where
+ * the number means nothing.
+ */
+static inline const char *isolated_refusal_text(uint32_t refusal) {
+    switch (refusal) {
+    case ISOLATED_REFUSED_NOT: return "accepted";
+    case ISOLATED_REFUSED_VERTICES: return "n is over 1,024";
+    case ISOLATED_REFUSED_TABLE_LENGTH: return "the table's length is not n * n";
+    case ISOLATED_REFUSED_TABLE_BYTE: return "a table byte is neither 0 nor 1";
+    case ISOLATED_REFUSED_DIAGONAL: return "a vertex is joined to itself";
+    case ISOLATED_REFUSED_SYMMETRY: return "the table is not symmetric";
+    case ISOLATED_REFUSED_NOTION: return "the notion is over 2";
+    case ISOLATED_REFUSED_KIND: return "the kind is over 1";
+    case ISOLATED_REFUSED_FACTOR: return "the factor c is 0 or over 1,024";
+    case ISOLATED_REFUSED_LENGTH: return "the position's or the set's length is not n";
+    case ISOLATED_REFUSED_WORK: return "the work slice has fewer than 8 * n entries";
+    case ISOLATED_REFUSED_SET_BYTE: return "a set byte is over 1";
+    case ISOLATED_REFUSED_POSITION_BYTE: return "a position byte is over 2";
+    case ISOLATED_REFUSED_POSITION_ORDER: return "a decided rank stands after an open one";
+    case ISOLATED_REFUSED_POSITION_DEAD: return "the position with its last decided rank opened is dead";
+    case ISOLATED_REFUSED_LINE_START:
+        return "a line is empty, starts with another letter than c, p or e, or has no space after it";
+    case ISOLATED_REFUSED_FORM: return "a word or a line does not have the form asked for";
+    case ISOLATED_REFUSED_NO_P_LINE: return "an e line stands before the p line, or there is no p line";
+    case ISOLATED_REFUSED_SECOND_P_LINE: return "there is a second p line";
+    case ISOLATED_REFUSED_TEXT_VERTICES: return "N is over 1,024";
+    case ISOLATED_REFUSED_RANGE: return "U or V is 0 or over N";
+    case ISOLATED_REFUSED_SAME_VERTEX: return "U equals V";
+    case ISOLATED_REFUSED_REPEATED_PAIR: return "the pair stood before, in this direction or the other";
+    case ISOLATED_REFUSED_EDGE_COUNT: return "M differs from the number of e lines";
+    case ISOLATED_REFUSED_TABLE_SHORT: return "the table has fewer than N * N bytes";
+    case ISOLATED_REFUSED_TEXT_LENGTH: return "the text is over 65,536 bytes";
+    }
+    return "no refusal has this number";
+}
 
 /* What isolated_page() returns. Where refusal is not 0 all other numbers are 0. */
 typedef struct isolated_page_answer {
