@@ -82,7 +82,7 @@ extern "C" {
 /* The entries that a work slice needs for n vertices. */
 #define ISOLATED_WORK(n) (8 * (size_t)(n))
 
-/* The bytes of stack that no call exceeds. */
+/* The bytes of stack that no call exceeds: a thread that calls needs them beside what it uses itself. */
 #define ISOLATED_STACK 196608
 
 /* Notions of isolation. */

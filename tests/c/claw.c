@@ -1,4 +1,4 @@
-/* Lists the groups of the claw from C, page by page, and asks about two sets. */
+/* Lists the groups of the claw, page by page, and asks about three sets. C99, and C++ as well. */
 #include "isolated.h"
 
 #include <stdio.h>
@@ -19,7 +19,7 @@ static void list(const uint8_t *table, size_t n, uint32_t notion, uint32_t kind,
         page = isolated_page(table, n * n, position, n, output, VERTICES + 1, work, ISOLATED_WORK(VERTICES), n, notion,
                              kind, c, 5);
         if (page.refusal != ISOLATED_REFUSED_NOT) {
-            printf("refused %u\n", page.refusal);
+            printf("refused %u: %s\n", page.refusal, isolated_refusal_text(page.refusal));
             return;
         }
         for (size_t at = 0; at < page.used; at += 1 + output[at]) {
@@ -53,9 +53,10 @@ int main(void) {
     list(table, read.vertices, ISOLATED_MIN, ISOLATED_ISOLATED_MAXIMAL, 1);
     list(table, read.vertices, ISOLATED_MIN, ISOLATED_ISOLATED_MAXIMAL, ISOLATED_FACTOR + 1);
 
-    ask(table, read.vertices, (const uint8_t[]){0, 0, 1, 0});
-    ask(table, read.vertices, (const uint8_t[]){1, 0, 1, 0});
-    ask(table, read.vertices, (const uint8_t[]){0, 0, 2, 0});
+    const uint8_t leaf[VERTICES] = {0, 0, 1, 0}, pair[VERTICES] = {1, 0, 1, 0}, no_set[VERTICES] = {0, 0, 2, 0};
+    ask(table, read.vertices, leaf);
+    ask(table, read.vertices, pair);
+    ask(table, read.vertices, no_set);
 
     read = isolated_read_text((const uint8_t *)text, strlen(text) - 1, table, sizeof table - 1);
     printf("read %u: line %zu, as named: %d\n", read.refusal, read.line, read.refusal == ISOLATED_REFUSED_TABLE_SHORT);
