@@ -21,6 +21,21 @@
  *   that many elements, also where the call is refused. Memory that a call may write must not overlap any other
  *   memory lent to the same call.
  *
+ * The graph
+ *   n vertices, 0 to n - 1, n at most 1,024. The table is n * n bytes, row by row: byte u * n + v is 1 where u
+ *   and v are joined, else 0. It is symmetric with a diagonal of zeros. The degree of a vertex is the ones in its
+ *   row. Rank 0 is the vertex of least degree; equal degrees go by smaller vertex number.
+ *
+ * The groups
+ *   A clique is a non-empty set of pairwise joined vertices. A member's outside count is the number of its
+ *   neighbours that are not in the set. A clique of k members is isolated with factor c when
+ *     ISOLATED_MIN  some member has outside count less than c,
+ *     ISOLATED_AVG  the outside counts sum to less than c * k,
+ *     ISOLATED_MAX  every member has outside count less than c.
+ *   It is a group when moreover
+ *     ISOLATED_MAXIMAL_ISOLATED  no larger set that contains it is an isolated clique,
+ *     ISOLATED_ISOLATED_MAXIMAL  no larger set that contains it is a clique.
+ *
  * Threads
  *   The library has no variables of its own and takes no lock. Calls may run at once in any number of threads, as
  *   long as memory that one of them may write is neither lent to another nor touched by anybody meanwhile. What
@@ -43,21 +58,6 @@
  *   No call uses more than ISOLATED_STACK bytes of stack, whatever its arguments. Most is used by the search above,
  *   which calls itself for each vertex that it adds: at most min(c, n - c) - 1 at a time, and so at most 511. That is
  *   tested of this archive, in a thread of that size with a graph that takes the search so deep, and not proved.
- *
- * The graph
- *   n vertices, 0 to n - 1, n at most 1,024. The table is n * n bytes, row by row: byte u * n + v is 1 where u
- *   and v are joined, else 0. It is symmetric with a diagonal of zeros. The degree of a vertex is the ones in its
- *   row. Rank 0 is the vertex of least degree; equal degrees go by smaller vertex number.
- *
- * The groups
- *   A clique is a non-empty set of pairwise joined vertices. A member's outside count is the number of its
- *   neighbours that are not in the set. A clique of k members is isolated with factor c when
- *     ISOLATED_MIN  some member has outside count less than c,
- *     ISOLATED_AVG  the outside counts sum to less than c * k,
- *     ISOLATED_MAX  every member has outside count less than c.
- *   It is a group when moreover
- *     ISOLATED_MAXIMAL_ISOLATED  no larger set that contains it is an isolated clique,
- *     ISOLATED_ISOLATED_MAXIMAL  no larger set that contains it is a clique.
  */
 #ifndef ISOLATED_H
 #define ISOLATED_H
