@@ -1,3 +1,3 @@
--- The laws of how the program ends, and the theorem about what it prints.
-pub mod Endings
+-- The laws of the program by its verdict, and the theorem about what it prints.
+pub mod ByVerdict
 pub mod Whole

@@ -23,8 +23,7 @@ use Rattle.request.specs.declared.verdict.Verdict.{Verdict}
 use Rattle.request.specs.declared.verdict.Verdict.the-variants.{Refused, Listing}
 use Rattle.request.specs.Verdict.{verdictOf, Decides}
 use Rattle.request.specs.Words.{Handed, passes}
-use Rattle.cli.specs.Ending.{ListedBy}
-use Rattle.cli.specs.Printing.{ReadOf, PrintsAsSaid}
+use Rattle.cli.specs.Printing.{ListedBy, ReadOf, PrintsAsSaid}
 
 -- ---- what is read of the text decides as the text does
 
@@ -65,7 +64,7 @@ said words text (Listing s n) t e l listed =
     }
 
 -- The program prints what document 01 says: over the contracts of `request::verdict::decide` (the verdict), `cli::program::list` (the list) and
--- `cli::ending::last_line` (the last line).
+-- `ending::last_line` (the last line).
 pub program-prints : (words : List (List ℕ)) (text : List ℕ) (count : ℕ) (a b c read table : List ℕ) → Handed words count a b c → ReadOf words text read
     → (v : Verdict) → Decides count a b c read table v → (l : Listed) (listed : ListedBy v table l) → PrintsAsSaid words text v table l listed
 program-prints words text count a b c read table handed given v decided l listed =

@@ -1,3 +1,2 @@
--- What the program's last line and its outcome are, and what it prints.
-pub mod Ending
+-- What the program prints, as far as its functions promise it.
 pub mod Printing

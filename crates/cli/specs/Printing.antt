@@ -1,17 +1,34 @@
 -- What the program prints, as far as its functions promise it: the bytes that are handed to the writes, in their order. Assumes nothing.
 use Prim.Native.Nat.{ℕ, _*_}
 use mathlib.Core.Path.{_≡_}
-use mathlib.Core.Bool.{true}
+use mathlib.Core.Bool.{Bool, true}
 use mathlib.Core.List.{List, [], _++_}
 use lib.ListN.{take}
 use Rattle.model.specs.Program.{settingsOfWords, programVerdict, Prints}
 use Rattle.theory.specs.Printed.{printedPages, Begins}
+use Rattle.isolation.specs.Numbers.{settingsOf}
+use Rattle.listing.specs.List.{Ran}
 use Rattle.listing.specs.declared.totals.Listed.{Listed}
 use Rattle.request.specs.declared.verdict.Verdict.{Verdict}
 use Rattle.request.specs.declared.verdict.Verdict.the-variants.{Refused, Listing}
 use Rattle.request.specs.Verdict.{verdictOf}
 use Rattle.request.specs.Words.{passes}
-use Rattle.cli.specs.Ending.{lastLine, ListedBy}
+use Rattle.ending.specs.declared.Outcome.{Outcome}
+use Rattle.ending.specs.Ending.{lastLine, outcomeOf}
+
+-- what is listed for a verdict: nothing for a refusal, else the pages of its graph
+abbrev pub ListedBy : Verdict → List ℕ → Listed → Type 0
+ListedBy (Refused k line) t l = Unit {0}
+ListedBy (Listing s n) t l = Ran n (take (n * n) t) (settingsOf s) l
+
+-- An answer: the list of the verdict, its last line at the start of the buffer, where it is written from, and the outcome by both and by whether that line
+-- was written.
+pub record Answers (v : Verdict) (t buffer : List ℕ) (o : Outcome) : Type 0 where
+  pub list : Listed
+  pub listed : ListedBy v t list
+  pub last : Begins (lastLine v list) buffer
+  pub written : Bool
+  pub told : o ≡ outcomeOf v list written
 
 -- what is read of a text: its first 65,537 bytes, where the words pass; else nothing is read, and it may be anything
 abbrev pub ReadOf : List (List ℕ) → List ℕ → List ℕ → Type 0

@@ -1,4 +1,3 @@
 // The program of document 01: it reads its words and its text, and prints a refusal or all groups and the totals.
-pub mod ending;
 pub mod input;
 pub mod program;

@@ -6,7 +6,7 @@ use lib.Seq.{length-take-le}
 use Rattle.request.specs.declared.verdict.Verdict.the-variants.{Listing}
 use Rattle.request.specs.Verdict.{Fine}
 use Rattle.request.proofs.JudgedText.{small-square}
-use Rattle.cli.proofs.Endings.{fine-as, listed-as}
+use Rattle.cli.proofs.ByVerdict.{fine-as, listed-as}
 use borrow.Author.Needs.{needs}
 use Rattle.cli.proofs.program.list.Statement.{statement}
 use Rattle.cli.proofs.program.list.Tie as tie

@@ -1,17 +1,16 @@
 -- The last line and the outcome, by the verdict, the list and whether the last line was written. Assumes nothing.
 use Prim.Native.Nat.{ℕ}
-use mathlib.Core.Path.{_≡_, refl, sym, ap, _∙_, subst}
+use mathlib.Core.Path.{_≡_, refl, sym, ap, _∙_}
 use mathlib.Core.Bool.{Bool, true, false, cond, not, true≢false, false≢true}
-use mathlib.Core.List.{List, []}
+use mathlib.Core.List.{[]}
 use Rattle.model.specs.Program.{endLine, refusedLine}
 use Rattle.isolation.specs.declared.Settings.{Settings}
 use Rattle.listing.specs.declared.totals.Listed.{Listed}
 use Rattle.request.specs.declared.verdict.Verdict.{Verdict}
 use Rattle.request.specs.declared.verdict.Verdict.the-variants.{Refused, Listing}
-use Rattle.request.specs.Verdict.{Fine}
-use Rattle.cli.specs.declared.ending.Outcome.{Outcome}
-use Rattle.cli.specs.declared.ending.Outcome.the-variants.{Ended, TurnedBack, Cut, Unread}
-use Rattle.cli.specs.Ending.{lastLine, ListedBy, outcomeOf, outcomeLine}
+use Rattle.ending.specs.declared.Outcome.{Outcome}
+use Rattle.ending.specs.declared.Outcome.the-variants.{Ended, TurnedBack, Cut, Unread}
+use Rattle.ending.specs.Ending.{lastLine, outcomeOf, outcomeLine}
 
 -- ---- the last line
 
@@ -55,11 +54,3 @@ module _ (v : Verdict) (l : Listed) where
 -- the line of an outcome, by what it is
 pub line-of : {o q : Outcome} → o ≡ q → outcomeLine q ≡ outcomeLine o
 line-of e = ap outcomeLine (sym e)
-
--- ---- by the verdict
-
-pub fine-as : {v q : Verdict} (t : List ℕ) → v ≡ q → Fine v t → Fine q t
-fine-as t e f = subst (λ (x : Verdict). Fine x t) e f
-
-pub listed-as : {v q : Verdict} (t : List ℕ) (l : Listed) → v ≡ q → ListedBy q t l → ListedBy v t l
-listed-as t l e h = subst (λ (x : Verdict). ListedBy x t l) (sym e) h

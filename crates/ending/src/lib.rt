@@ -3,7 +3,7 @@ ghost use mathlib.Core.Path.{_≡_};
 ghost use Prim.Native.Nat.{_≤_};
 ghost use lib.ListN.{length};
 ghost use Rattle.print.specs.Put.{Puts};
-ghost use Rattle.cli.specs.Ending.{lastLine, outcomeOf, outcomeLine};
+ghost use Rattle.ending.specs.Ending.{lastLine, outcomeOf, outcomeLine};
 use listing::totals::Listed;
 use print::end_line;
 use print::put;

@@ -1,8 +1,8 @@
--- `cli::ending::outcome_of` meets its contract. Assumes nothing.
-use Rattle.cli.proofs.Endings.{unwritten, told-refused, told-ended, told-cut}
+-- `ending::outcome_of` meets its contract. Assumes nothing.
+use Rattle.ending.proofs.Endings.{unwritten, told-refused, told-ended, told-cut}
 use borrow.Author.Needs.{needs}
-use Rattle.cli.proofs.ending.outcome_of.Statement.{statement}
-use Rattle.cli.proofs.ending.outcome_of.Tie as tie
+use Rattle.ending.proofs.outcome_of.Statement.{statement}
+use Rattle.ending.proofs.outcome_of.Tie as tie
 
 returns : tie.Need-returns
 returns c = let a = c .before .args in unwritten (a .v) (a .l) (a .written) (c .if1 .taken)

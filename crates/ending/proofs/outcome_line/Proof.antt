@@ -1,9 +1,9 @@
--- `cli::ending::outcome_line` meets its contract. Assumes nothing.
+-- `ending::outcome_line` meets its contract. Assumes nothing.
 use Rattle.print.proofs.Puts.{puts-as}
-use Rattle.cli.proofs.Endings.{line-of}
+use Rattle.ending.proofs.Endings.{line-of}
 use borrow.Author.Needs.{needs}
-use Rattle.cli.proofs.ending.outcome_line.Statement.{statement}
-use Rattle.cli.proofs.ending.outcome_line.Tie as tie
+use Rattle.ending.proofs.outcome_line.Statement.{statement}
+use Rattle.ending.proofs.outcome_line.Tie as tie
 
 returns : tie.Need-returns
 returns c = puts-as (line-of (c .before .before .before .before .before .enum-told .given .1)) (c .before .before .put .ensures)

@@ -1,10 +1,10 @@
--- `cli::ending::last_line` meets its contract. Assumes nothing.
+-- `ending::last_line` meets its contract. Assumes nothing.
 use native.Mathlib.Omega.{arith}
 use Rattle.print.proofs.Puts.{puts-as, puts-none}
-use Rattle.cli.proofs.Endings.{refused-last, end-last, cut-last}
+use Rattle.ending.proofs.Endings.{refused-last, end-last, cut-last}
 use borrow.Author.Needs.{needs}
-use Rattle.cli.proofs.ending.last_line.Statement.{statement}
-use Rattle.cli.proofs.ending.last_line.Tie as tie
+use Rattle.ending.proofs.last_line.Statement.{statement}
+use Rattle.ending.proofs.last_line.Tie as tie
 
 returns : tie.Need-returns
 returns c = puts-as (refused-last (c .before .before .before .before .before .before .before .before .args .l) (c .before .before .before .before .before .v .given .1)) (c .before .before .refused-line .ensures)

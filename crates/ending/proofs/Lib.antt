@@ -1,0 +1,2 @@
+-- The laws of the last line and the outcome.
+pub mod Endings

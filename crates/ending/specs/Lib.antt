@@ -1,0 +1,2 @@
+-- What the program's last line and its outcome are.
+pub mod Ending
