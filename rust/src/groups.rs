@@ -1,13 +1,15 @@
 //! All groups of a graph, one after the other.
 
-use crate::{page, work_entries, Page, Refusal, Settings, Stop};
+use crate::{page, work_entries, Page, Refusal, Settings, Stop, VERTICES};
+use std::fmt;
+use std::iter::FusedIterator;
 
 /// Steps that one page may make. A page tests the whole table anew, so that many steps keep that cost small, and
 /// a walk of few groups still comes back now and then.
 const BUDGET: u32 = 1 << 20;
 
 /// The memory of a listing: its position, its output and its work slice. It is made by the caller and lent to
-/// [`Groups`], so that one room serves many graphs.
+/// [`Groups`], so that one room serves many graphs, of any number of vertices up to the one it was made for.
 pub struct Room {
     position: Vec<u8>,
     output: Vec<u16>,
@@ -15,14 +17,34 @@ pub struct Room {
 }
 
 impl Room {
-    /// A room for graphs of `n` vertices: n bytes, at least n + 1 entries of output and 8 × n entries of work.
+    /// A room for graphs of up to `n` vertices: n bytes, at least n + 1 entries of output and 8 × n entries of work. No
+    /// graph has more than [`VERTICES`], so a larger `n` counts as that.
+    #[must_use]
     pub fn new(n: usize) -> Room {
         Room::with_output(n, 4096)
     }
 
     /// A room with an output of this many entries, or of n + 1 where this is more: any group fits then.
+    #[must_use]
     pub fn with_output(n: usize, entries: usize) -> Room {
+        let n = n.min(VERTICES);
         Room { position: vec![0; n], output: vec![0; entries.max(n + 1)], work: vec![0; work_entries(n)] }
+    }
+
+    /// The most vertices of a graph that it serves.
+    #[must_use]
+    pub fn vertices(&self) -> usize {
+        self.position.len()
+    }
+}
+
+/// Its sizes, without its contents.
+impl fmt::Debug for Room {
+    fn fmt(&self, out: &mut fmt::Formatter<'_>) -> fmt::Result {
+        out.debug_struct("Room")
+            .field("vertices", &self.vertices())
+            .field("output", &self.output.len())
+            .finish_non_exhaustive()
     }
 }
 
@@ -37,7 +59,7 @@ impl Room {
 /// # fn main() -> Result<(), Refusal> {
 /// let triangle = [0, 1, 1, 1, 0, 1, 1, 1, 0];
 /// let mut room = Room::new(3);
-/// let settings = Settings { notion: Notion::Avg, kind: Kind::IsolatedMaximal, c: 1 };
+/// let settings = Settings::new(Notion::Avg, Kind::IsolatedMaximal, 1);
 /// let mut groups = Groups::new(&triangle, 3, settings, &mut room)?;
 /// assert_eq!(groups.next(), Some(vec![0, 1, 2]));
 /// assert_eq!(groups.next(), None);
@@ -61,8 +83,13 @@ pub struct Groups<'a> {
 }
 
 impl<'a> Groups<'a> {
-    /// Starts a listing from the fresh position. Any fault of the table, n, the settings or the room is told here;
-    /// the listing itself is refused nothing after that.
+    /// Starts a listing from the fresh position. `table` has n × n bytes, and `room` is for n vertices or more; it may
+    /// hold anything, also what an earlier listing left.
+    ///
+    /// # Errors
+    ///
+    /// Any fault of the table, n or the settings, as [`page`] tells it, and [`Refusal::Length`] where the room is for
+    /// fewer than n vertices. The listing itself is refused nothing after that.
     pub fn new(table: &'a [u8], n: usize, settings: Settings, room: &'a mut Room) -> Result<Groups<'a>, Refusal> {
         room.position.fill(0);
         let mut groups = Groups { table, n, settings, room, read: 0, used: 0, steps: 0, finished: false };
@@ -71,15 +98,18 @@ impl<'a> Groups<'a> {
     }
 
     /// The steps that the walk has made so far.
+    #[must_use]
     pub fn steps(&self) -> u64 {
         self.steps
     }
 
-    /// One page; the output is read up to its used entries afterwards.
+    /// One page; the output is read up to its used entries afterwards. Of a room for more vertices the beginning is
+    /// lent; one for fewer is lent whole, and the library finds the position too short.
     fn turn(&mut self, budget: u32) -> Result<Page, Refusal> {
-        let room = &mut *self.room;
-        let done =
-            page(self.table, &mut room.position, &mut room.output, &mut room.work, self.n, self.settings, budget)?;
+        let Room { position, output, work } = &mut *self.room;
+        let lent = self.n.min(position.len());
+        let (position, work) = (&mut position[..lent], &mut work[..work_entries(lent)]);
+        let done = page(self.table, position, output, work, self.n, self.settings, budget)?;
         self.read = 0;
         self.used = done.used;
         self.steps += u64::from(done.steps);
@@ -102,5 +132,20 @@ impl Iterator for Groups<'_> {
         let first = self.read + 1;
         self.read = first + size;
         Some(self.room.output[first..self.read].to_vec())
+    }
+}
+
+/// Once the walk is over it stays so.
+impl FusedIterator for Groups<'_> {}
+
+/// How far it is, without the table and the room.
+impl fmt::Debug for Groups<'_> {
+    fn fmt(&self, out: &mut fmt::Formatter<'_>) -> fmt::Result {
+        out.debug_struct("Groups")
+            .field("n", &self.n)
+            .field("settings", &self.settings)
+            .field("steps", &self.steps)
+            .field("finished", &self.finished)
+            .finish_non_exhaustive()
     }
 }

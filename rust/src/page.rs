@@ -3,6 +3,9 @@
 use crate::raw::isolated_page;
 use crate::{Refusal, Settings};
 
+/// The most vertices of a graph.
+pub const VERTICES: usize = 1024;
+
 /// Why a page stopped.
 #[derive(Clone, Copy, Debug, PartialEq, Eq, Hash)]
 pub enum Stop {
@@ -10,13 +13,17 @@ pub enum Stop {
     Finished,
     /// As many steps as the budget allows were made.
     Spent,
-    /// The next group does not fit into the unused output: it wants this many entries.
-    Full { wanted: usize },
+    /// The next group does not fit into the unused output.
+    Full {
+        /// The entries that this group wants: its size and one more.
+        wanted: usize,
+    },
 }
 
 /// What one accepted page did.
 #[derive(Clone, Copy, Debug, PartialEq, Eq, Hash)]
 pub struct Page {
+    /// Why it stopped.
     pub stop: Stop,
     /// Groups written.
     pub groups: u32,
@@ -26,9 +33,10 @@ pub struct Page {
     pub used: usize,
 }
 
-/// The entries that a work slice needs for `n` vertices.
-pub fn work_entries(n: usize) -> usize {
-    8 * n
+/// The entries that a work slice needs for `n` vertices: 8 × n, or as many as can be counted where that is more.
+#[must_use]
+pub const fn work_entries(n: usize) -> usize {
+    n.saturating_mul(8)
 }
 
 /// Goes on with the walk over a graph and writes the groups it meets.
@@ -36,14 +44,14 @@ pub fn work_entries(n: usize) -> usize {
 /// `table` has n × n bytes. `position` has n bytes, one a rank: all 0 at the start; hand on what the last call left.
 /// `output`, of any length, gets each group as its size and then its vertices in rank order, right from entry 0;
 /// entries past `used` keep their contents. `work` has at least [`work_entries`] entries; its contents do not matter
-/// and are open afterwards. `budget` is the most steps to make. A refusal leaves every slice as it was.
+/// and are open afterwards. `budget` is the most steps to make. Each call tests the whole table anew.
 ///
 /// ```
 /// use isolated::{page, Kind, Notion, Settings, Stop};
 ///
 /// # fn main() -> Result<(), isolated::Refusal> {
 /// let path = [0, 1, 0, 1, 0, 1, 0, 1, 0];
-/// let settings = Settings { notion: Notion::Max, kind: Kind::MaximalIsolated, c: 2 };
+/// let settings = Settings::new(Notion::Max, Kind::MaximalIsolated, 2);
 /// let (mut position, mut output, mut work) = ([0; 3], [0; 4], [0; 24]);
 ///
 /// let first = page(&path, &mut position, &mut output, &mut work, 3, settings, 1000)?;
@@ -56,6 +64,15 @@ pub fn work_entries(n: usize) -> usize {
 /// # Ok(())
 /// # }
 /// ```
+///
+/// # Errors
+///
+/// The first of the refusals 1 to 10 and 21 to 23 that fits, [`Refusal::Vertices`] to [`Refusal::Work`] and
+/// [`Refusal::PositionByte`] to [`Refusal::PositionDead`]. Every slice is then as it was.
+///
+/// # Panics
+///
+/// Never with the proved library; only one with other answers could make it panic.
 pub fn page(
     table: &[u8],
     position: &mut [u8],

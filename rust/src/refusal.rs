@@ -2,124 +2,106 @@
 
 use std::fmt;
 
-/// Why a call was turned back, with the numbers of document 01, which also fixes which one of several faults is told.
-#[derive(Clone, Copy, Debug, PartialEq, Eq, Hash)]
-pub enum Refusal {
-    /// n is over 1,024.
-    Vertices = 1,
-    /// The table's length is not n × n.
-    TableLength = 2,
-    /// A table byte is neither 0 nor 1.
-    TableByte = 3,
-    /// A vertex is joined to itself.
-    Diagonal = 4,
-    /// The table is not symmetric.
-    Symmetry = 5,
-    /// The notion's number is over 2. [`crate::Notion`] has no such value.
-    Notion = 6,
-    /// The kind's number is over 1. [`crate::Kind`] has no such value.
-    Kind = 7,
-    /// c is 0 or over 1,024.
-    Factor = 8,
-    /// The position's or the set's length is not n.
-    Length = 9,
-    /// The work slice has fewer than 8 × n entries.
-    Work = 10,
-    /// A set byte is over 1.
-    SetByte = 11,
-    /// A position byte is over 2.
-    PositionByte = 21,
-    /// A decided rank stands after an open one.
-    PositionOrder = 22,
-    /// The position with its last decided rank opened is dead.
-    PositionDead = 23,
-    /// An empty line, a first letter that is not c, p or e, or no space after it.
-    LineStart = 31,
-    /// Another fault of form.
-    Form = 32,
-    /// An e line before any p line, or no p line at all.
-    NoPLine = 33,
-    /// A second p line.
-    SecondPLine = 34,
-    /// N is over 1,024.
-    TextVertices = 35,
-    /// U or V is 0 or over N.
-    Range = 36,
-    /// U equals V.
-    SameVertex = 37,
-    /// The pair stood before, in this direction or the other.
-    RepeatedPair = 38,
-    /// M differs from the number of e lines.
-    EdgeCount = 39,
-    /// The table has fewer than N × N bytes.
-    TableShort = 40,
+/// Declares the refusals: of each its name, its number, and its sentence, which is its documentation too.
+macro_rules! refusals {
+    ($($(#[$more:meta])* $name:ident = $number:literal, $sentence:literal;)*) => {
+        /// Why a call was turned back, with the numbers of document 01, which also fixes which one of several faults is
+        /// told.
+        ///
+        /// Its `Display` is a sentence. Later requests bring further numbers, so a `match` has to have an arm for them.
+        #[derive(Clone, Copy, Debug, PartialEq, Eq, Hash)]
+        #[non_exhaustive]
+        pub enum Refusal {
+            $(#[doc = concat!($sentence, ".")] $(#[$more])* $name = $number,)*
+        }
+
+        impl Refusal {
+            /// All refusals, in the order of their numbers.
+            pub const ALL: &'static [Refusal] = &[$(Refusal::$name),*];
+
+            /// What is wrong, as a sentence without its full stop: line for line that of `docs/refusals.tsv`, which also
+            /// says what to do about it.
+            ///
+            /// ```
+            /// use isolated::Refusal;
+            /// assert_eq!(Refusal::Symmetry.sentence(), "the table is not symmetric");
+            /// ```
+            #[must_use]
+            pub const fn sentence(self) -> &'static str {
+                match self {
+                    $(Refusal::$name => $sentence,)*
+                }
+            }
+        }
+    };
+}
+
+refusals! {
+    Vertices = 1, "n is over 1,024";
+    TableLength = 2, "the table's length is not n * n";
+    TableByte = 3, "a table byte is neither 0 nor 1";
+    Diagonal = 4, "a vertex is joined to itself";
+    Symmetry = 5, "the table is not symmetric";
+    /// [`crate::Notion`] has no such value: only its `TryFrom<u32>` and the calls of [`crate::raw`] tell this.
+    Notion = 6, "the notion is over 2";
+    /// [`crate::Kind`] has no such value: only its `TryFrom<u32>` and the calls of [`crate::raw`] tell this.
+    Kind = 7, "the kind is over 1";
+    Factor = 8, "the factor c is 0 or over 1,024";
+    /// [`crate::Groups`] tells this where its room is for fewer than n vertices.
+    Length = 9, "the position's or the set's length is not n";
+    Work = 10, "the work slice has fewer than 8 * n entries";
+    SetByte = 11, "a set byte is over 1";
+    PositionByte = 21, "a position byte is over 2";
+    PositionOrder = 22, "a decided rank stands after an open one";
+    PositionDead = 23, "the position with its last decided rank opened is dead";
+    LineStart = 31, "a line is empty, starts with another letter than c, p or e, or has no space after it";
+    Form = 32, "a word or a line does not have the form asked for";
+    NoPLine = 33, "an e line stands before the p line, or there is no p line";
+    SecondPLine = 34, "there is a second p line";
+    TextVertices = 35, "N is over 1,024";
+    Range = 36, "U or V is 0 or over N";
+    SameVertex = 37, "U equals V";
+    RepeatedPair = 38, "the pair stood before, in this direction or the other";
+    EdgeCount = 39, "M differs from the number of e lines";
+    TableShort = 40, "the table has fewer than N * N bytes";
 }
 
 impl Refusal {
-    /// All refusals, in the order of their numbers.
-    pub const ALL: [Refusal; 24] = [
-        Refusal::Vertices,
-        Refusal::TableLength,
-        Refusal::TableByte,
-        Refusal::Diagonal,
-        Refusal::Symmetry,
-        Refusal::Notion,
-        Refusal::Kind,
-        Refusal::Factor,
-        Refusal::Length,
-        Refusal::Work,
-        Refusal::SetByte,
-        Refusal::PositionByte,
-        Refusal::PositionOrder,
-        Refusal::PositionDead,
-        Refusal::LineStart,
-        Refusal::Form,
-        Refusal::NoPLine,
-        Refusal::SecondPLine,
-        Refusal::TextVertices,
-        Refusal::Range,
-        Refusal::SameVertex,
-        Refusal::RepeatedPair,
-        Refusal::EdgeCount,
-        Refusal::TableShort,
-    ];
-
     /// The number of document 01.
     ///
     /// ```
     /// use isolated::Refusal;
     /// assert_eq!(Refusal::Symmetry.number(), 5);
     /// ```
-    pub fn number(self) -> u32 {
+    #[must_use]
+    pub const fn number(self) -> u32 {
         self as u32
     }
 
-    /// The refusal of a number, `None` where document 01 gives the number to no call.
+    /// The refusal of a number, `None` where no call tells this number.
     ///
     /// ```
     /// use isolated::Refusal;
     /// assert_eq!(Refusal::of_number(38), Some(Refusal::RepeatedPair));
     /// assert_eq!(Refusal::of_number(0), None);
     /// ```
+    #[must_use]
     pub fn of_number(number: u32) -> Option<Refusal> {
-        Refusal::ALL.into_iter().find(|refusal| refusal.number() == number)
+        Refusal::ALL.iter().copied().find(|refusal| refusal.number() == number)
     }
 
     /// What the library told: nothing for 0. It tells no other number than those above.
     pub(crate) fn told(number: u32) -> Result<(), Refusal> {
-        match Refusal::of_number(number) {
-            Some(refusal) => Err(refusal),
-            None => {
-                assert_eq!(number, 0, "the library told a refusal that document 01 does not name");
-                Ok(())
-            }
+        if number == 0 {
+            return Ok(());
         }
+        Err(Refusal::of_number(number).expect("the library tells only refusals that document 01 names"))
     }
 }
 
 impl fmt::Display for Refusal {
     fn fmt(&self, out: &mut fmt::Formatter<'_>) -> fmt::Result {
-        write!(out, "refused {} ({:?})", self.number(), self)
+        out.pad(self.sentence())
     }
 }
 

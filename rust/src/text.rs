@@ -13,9 +13,10 @@ pub struct TextGraph {
     pub edges: usize,
 }
 
-/// Why a text was turned back, and where.
+/// Why a text was turned back, and where. Its `Display` names the line and then the fault.
 #[derive(Clone, Copy, Debug, PartialEq, Eq, Hash)]
 pub struct TextRefusal {
+    /// The fault.
     pub refusal: Refusal,
     /// The faulty line, counted from 1; a fault at the end of the text is told with the line count plus 1.
     pub line: usize,
@@ -23,16 +24,13 @@ pub struct TextRefusal {
 
 impl fmt::Display for TextRefusal {
     fn fmt(&self, out: &mut fmt::Formatter<'_>) -> fmt::Result {
-        write!(out, "{} in line {}", self.refusal, self.line)
+        write!(out, "line {}: {}", self.line, self.refusal)
     }
 }
 
 impl std::error::Error for TextRefusal {}
 
 /// Reads a graph into the first N × N bytes of `table`; the rest is untouched.
-///
-/// Of a text that is refused before a p line has passed, nothing is written; after it the first N × N bytes, with
-/// that line's N, are 0.
 ///
 /// ```
 /// use isolated::{read_text, Refusal, TextRefusal};
@@ -43,11 +41,21 @@ impl std::error::Error for TextRefusal {}
 /// assert_eq!((graph.vertices, graph.edges), (3, 2));
 /// assert_eq!(table, [0, 1, 0, 1, 0, 1, 0, 1, 0, 9]);
 ///
-/// let refused = read_text(b"p edge 3 1\ne 1 4\n", &mut table);
-/// assert_eq!(refused, Err(TextRefusal { refusal: Refusal::Range, line: 2 }));
+/// let refused = read_text(b"p edge 3 1\ne 1 4\n", &mut table).unwrap_err();
+/// assert_eq!(refused, TextRefusal { refusal: Refusal::Range, line: 2 });
+/// assert_eq!(refused.to_string(), "line 2: U or V is 0 or over N");
 /// # Ok(())
 /// # }
 /// ```
+///
+/// # Errors
+///
+/// One of the refusals 31 to 40, [`Refusal::LineStart`] to [`Refusal::TableShort`], and its line. Of a text that is
+/// refused before a p line has passed, nothing is written; after it the first N × N bytes, with that line's N, are 0.
+///
+/// # Panics
+///
+/// Never with the proved library; only one with other answers could make it panic.
 pub fn read_text(text: &[u8], table: &mut [u8]) -> Result<TextGraph, TextRefusal> {
     // SAFETY: each pointer and length come from one slice, none is null, and the table is borrowed exclusively.
     let answer = unsafe { isolated_read_text(text.as_ptr(), text.len(), table.as_mut_ptr(), table.len()) };
