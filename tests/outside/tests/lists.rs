@@ -90,32 +90,30 @@ fn check_graph(random: &mut Random, graph: Graph) {
     }
 }
 
-fn family(name: &str, make: fn(&mut Random, usize) -> Graph) {
-    cases(name, GRAPHS, |random| {
-        let n = random.between(0, 14);
-        let graph = make(random, n);
-        check_graph(random, graph);
-    });
+fn check_one_of(random: &mut Random, family: fn(&mut Random, usize) -> Graph) {
+    let n = random.between(0, 14);
+    let graph = family(random, n);
+    check_graph(random, graph);
 }
 
 #[test]
 fn sparse_graphs() {
-    family("sparse_graphs", samples::sparse);
+    cases("sparse_graphs", GRAPHS, |random| check_one_of(random, samples::sparse));
 }
 
 #[test]
 fn dense_graphs() {
-    family("dense_graphs", samples::dense);
+    cases("dense_graphs", GRAPHS, |random| check_one_of(random, samples::dense));
 }
 
 #[test]
 fn graphs_of_equal_degrees() {
-    family("graphs_of_equal_degrees", samples::equal_degrees);
+    cases("graphs_of_equal_degrees", GRAPHS, |random| check_one_of(random, samples::equal_degrees));
 }
 
 #[test]
 fn graphs_with_planted_cliques() {
-    family("graphs_with_planted_cliques", samples::planted);
+    cases("graphs_with_planted_cliques", GRAPHS, |random| check_one_of(random, samples::planted));
 }
 
 /// Every graph of up to four vertices, with every set asked about.
