@@ -26,7 +26,7 @@ cargo_tests() {
 # cargo_clippy MANIFEST: one test, that clippy finds nothing in any of a crate's targets, its pedantic lints among them
 cargo_clippy() {
     if cargo clippy --version >/dev/null 2>&1; then
-        try "clippy has something to say of $1" cargo clippy --offline --quiet --all-targets --manifest-path "$1" -- -D warnings -D clippy::pedantic
+        try "clippy has something to say of $1" cargo clippy --offline --quiet --all-targets --manifest-path "$1" -- --no-deps -D warnings -D clippy::pedantic
     else
         fail "cargo clippy is not installed, so that $1 is not linted"
     fi
