@@ -9,15 +9,15 @@
 //! or the file are refused, 2 where the file was not read or the list is cut; an `end` line is written only in the first
 //! of these cases.
 
-use isolated::{page, read_text, work_entries, Kind, Notion, Page, Refusal, Settings, Stop, VERTICES};
+use isolated::{page, read_text, work_entries, Kind, Notion, Settings, Stop, VERTICES};
 use std::ffi::OsString;
-use std::fmt::Write as _;
 use std::io::{self, ErrorKind, IsTerminal, Write};
 use std::path::Path;
 use std::process::ExitCode;
 use std::{env, fs};
 
-/// The steps of a page, some hundredths of a second; then there is progress to tell.
+/// The steps of a page: so many that the test of the table, which each page makes, costs little beside them, and so few
+/// that there is progress to tell.
 const BUDGET: u32 = 1 << 22;
 
 /// The entries of the output: many groups, so that few pages end because it is full.
@@ -67,7 +67,7 @@ fn settings(notion: &OsString, kind: &OsString, c: &OsString) -> Result<Settings
     Ok(Settings::new(notion, kind, c))
 }
 
-/// Pages through the walk, and writes the groups of each page at once.
+/// Pages through the walk, writes the groups of each page at once, and the last line once they are all out.
 fn list(table: &[u8], n: usize, settings: Settings) -> Result<(), Failure> {
     let mut position = vec![0; n];
     let mut output = vec![0; ENTRIES];
@@ -75,22 +75,16 @@ fn list(table: &[u8], n: usize, settings: Settings) -> Result<(), Failure> {
     let (mut groups, mut steps) = (0u64, 0u64);
     let mut progress = Progress::new();
     loop {
-        let refused = |refusal: Refusal| Failure::Refused(refusal.to_string());
-        let done: Page = page(table, &mut position, &mut output, &mut work, n, settings, BUDGET).map_err(refused)?;
+        let done = page(table, &mut position, &mut output, &mut work, n, settings, BUDGET)
+            .map_err(|refusal| Failure::Refused(refusal.to_string()))?;
         groups += u64::from(done.groups);
         steps += u64::from(done.steps);
-        let mut lines = lines(&output[..done.used]);
-        let finished = done.stop == Stop::Finished;
-        if finished {
-            // The program's totals stay at the largest number of 32 bits.
-            let total = |count: u64| count.min(u32::MAX.into());
-            writeln!(lines, "end {} {}", total(groups), total(steps)).expect("a string takes every line");
-        }
         progress.clear();
-        let mut out = io::stdout().lock();
-        out.write_all(lines.as_bytes()).and_then(|()| out.flush()).map_err(Failure::Cut)?;
-        if finished {
-            return Ok(());
+        to_standard_output(&lines(&output[..done.used])).map_err(Failure::Cut)?;
+        if done.stop == Stop::Finished {
+            // As in the program, the totals stay at the largest number of 32 bits.
+            let total = |count: u64| count.min(u32::MAX.into());
+            return to_standard_output(&format!("end {} {}\n", total(groups), total(steps))).map_err(Failure::Cut);
         }
         progress.tell(steps, groups);
     }
@@ -140,6 +134,13 @@ impl Progress {
             self.shown = false;
         }
     }
+}
+
+/// Nothing is left in a buffer, so that after an error nothing more is written.
+fn to_standard_output(text: &str) -> io::Result<()> {
+    let mut out = io::stdout().lock();
+    out.write_all(text.as_bytes())?;
+    out.flush()
 }
 
 /// Where nobody reads standard error, there is nobody to tell that.

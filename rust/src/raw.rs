@@ -1,8 +1,8 @@
 //! The three calls as the static library exports them, with the numbers of document 01 as plain numbers.
 //!
 //! This is `include/isolated.h` in Rust; [`crate::page`], [`crate::set_query`] and [`crate::read_text`] are these calls
-//! over slices. A lent slice is a pointer and then its length in elements. For each call the pointers must be aligned
-//! and not null, even where the length is 0; each must lead to so many elements that may be read, and behind a `*mut`
+//! over slices. A lent slice is a pointer and then its length in elements. For each call the pointers must be aligned,
+//! and not null unless the header allows it; each must lead to so many elements that may be read, and behind a `*mut`
 //! also written; and what may be written must overlap nothing else that is lent.
 
 /// What [`isolated_page`] returns. Where the refusal is not 0, all other numbers are 0.

@@ -111,9 +111,12 @@ fn no_vertices_have_no_groups() {
     stays_over(groups);
 }
 
-/// Each thread lists in a room of its own, over one table.
+/// Each thread lists in a room of its own, over one table; a listing and its room may move to another thread.
 #[test]
 fn threads_share_a_table() {
+    fn may_move<T: Send>() {}
+    may_move::<Room>();
+    may_move::<Groups>();
     let table = ring(12);
     let settings = Settings::new(Notion::Max, Kind::MaximalIsolated, 2);
     let expected = all_groups(&table, 12, settings, &mut Room::new(12));
