@@ -1,6 +1,6 @@
-/* terminal FILE TYPED COMMAND...: runs the command with a new terminal as its standard error; FILE gets what appears there.
-   Where TYPED is not empty, the terminal is its standard input too, and TYPED is typed once something has appeared. The
-   status is the command's, or 128 + S where signal S ended it. */
+/* terminal FILE TYPED COMMAND...: runs the command with a new terminal as its standard error; FILE gets what appears
+   there. Where TYPED is not empty, the terminal is its standard input too, and TYPED is typed once a line has appeared.
+   The status is the command's, or 128 + S where signal S ended it. */
 #define _GNU_SOURCE
 #include <fcntl.h>
 #include <signal.h>
@@ -44,8 +44,12 @@ int main(int argc, char **argv) {
     ssize_t got;
     while ((got = read(terminal, bytes, sizeof bytes)) > 0) {
         if (write(file, bytes, got) != got) return 126;
-        if (typed[0] != '\0' && write(terminal, typed, strlen(typed)) < 0) return 126;
-        typed = "";
+        if (memchr(bytes, '\n', got) != NULL) {
+            /* Where the command has ended meanwhile nobody reads it, and that is no fault. */
+            ssize_t put = write(terminal, typed, strlen(typed));
+            (void)put;
+            typed = "";
+        }
     }
     int status;
     if (waitpid(child, &status, 0) != child) return 126;

@@ -1,5 +1,5 @@
-/* nonblock FD SIZE COMMAND...: runs the command with descriptor FD made non-blocking. Where SIZE is not 0, FD is a pipe and
-   holds about SIZE bytes from then on, so that it is soon full. */
+/* nonblock FD SIZE COMMAND...: runs the command with descriptor FD made non-blocking. Where SIZE is not 0, FD is a pipe
+   and holds about SIZE bytes from then on, so that it is soon full. */
 #define _GNU_SOURCE
 #include <fcntl.h>
 #include <stdio.h>
