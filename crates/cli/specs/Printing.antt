@@ -11,7 +11,7 @@ use Rattle.listing.specs.List.{Ran}
 use Rattle.listing.specs.declared.totals.Listed.{Listed}
 use Rattle.request.specs.declared.verdict.Verdict.{Verdict}
 use Rattle.request.specs.declared.verdict.Verdict.the-variants.{Refused, Listing}
-use Rattle.request.specs.Verdict.{verdictOf}
+use Rattle.request.specs.Verdict.{verdictOf, Decides}
 use Rattle.request.specs.Words.{passes}
 use Rattle.ending.specs.declared.Outcome.{Outcome}
 use Rattle.ending.specs.Ending.{lastLine, outcomeOf}
@@ -21,14 +21,18 @@ abbrev pub ListedBy : Verdict → List ℕ → Listed → Type 0
 ListedBy (Refused k line) t l = Unit {0}
 ListedBy (Listing s n) t l = Ran n (take (n * n) t) (settingsOf s) l
 
--- An answer: the list of the verdict, its last line at the start of the buffer, where it is written from, and the outcome by both and by whether that line
--- was written.
-pub record Answers (v : Verdict) (t buffer : List ℕ) (o : Outcome) : Type 0 where
+-- an answer: the list of the verdict, and the outcome by both and by whether the last line was written
+pub record Answers (v : Verdict) (t : List ℕ) (o : Outcome) : Type 0 where
   pub list : Listed
   pub listed : ListedBy v t list
-  pub last : Begins (lastLine v list) buffer
   pub written : Bool
   pub told : o ≡ outcomeOf v list written
+
+-- the response to words and text: the answer of the verdict on them
+pub record Responds (count : ℕ) (a b c text t : List ℕ) (o : Outcome) : Type 0 where
+  pub verdict : Verdict
+  pub decided : Decides count a b c text t verdict
+  pub answered : Answers verdict t o
 
 -- what is read of a text: its first 65,537 bytes, where the words pass; else nothing is read, and it may be anything
 abbrev pub ReadOf : List (List ℕ) → List ℕ → List ℕ → Type 0

@@ -1,11 +1,12 @@
 // The program: it reads its words and its text, decides, and prints a refusal or all groups and the totals.
 ghost use mathlib.Core.Path.{_≡_};
 ghost use Prim.Native.Nat.{_-_, _≤_};
-ghost use lib.ListN.{length};
+ghost use lib.ListN.{length, take, replicate};
 ghost use Rattle.isolation.specs.Numbers.{settingsOf};
 ghost use Rattle.listing.specs.List.{Listable, Ran};
 ghost use Rattle.request.specs.Verdict.{Fine};
-ghost use Rattle.cli.specs.Printing.{ListedBy, Answers};
+ghost use Rattle.ending.specs.Ending.{lastLine};
+ghost use Rattle.cli.specs.Printing.{ListedBy, Answers, Responds};
 use crate::input::read_wanted;
 use ending::Outcome;
 use ending::last_line;
@@ -78,16 +79,44 @@ fn list(v: Verdict, table: &[u8], bytes: &mut [u8]) -> Listed
     }
 }
 
+// Writes the last line of what is printed, the first k bytes of a buffer, and answers whether all of it was written.
+fn write_last(bytes: &[u8], k: usize, v: Verdict, l: Listed) -> bool
+    requires { ⌜ k ≤ length (now bytes) ⌝ }
+    requires { ⌜ take k (now bytes) ≡ lastLine v l ⌝ }
+{
+    write_first(bytes, k)
+}
+
 // Prints what a verdict asks for: the groups, and then the last line, by way of a buffer.
 fn answer(v: Verdict, table: &[u8], bytes: &mut [u8]) -> Outcome
     requires { ⌜ Fine v (now table) ⌝ }
     requires { ⌜ 49152 ≤ length (now bytes) ⌝ }
-    ensures { λ r. ⌜ Answers v (now (table .entry)) (now (bytes .exit)) r ⌝ }
+    ensures { λ r. ⌜ Answers v (now (table .entry)) r ⌝ }
 {
     let l = list(v, table, bytes);
     let k = last_line(v, l, bytes);
-    let written = write_first(bytes, k);
+    let written = write_last(bytes, k, v, l);
     outcome_of(v, l, written)
+}
+
+// Decides by the words and the text, and prints what the verdict asks for. The table is all 0 before, and the buffer may hold anything.
+fn respond(
+    count: usize,
+    a: &[u8],
+    b: &[u8],
+    c: &[u8],
+    text: &[u8],
+    table: &mut [u8],
+    bytes: &mut [u8],
+) -> Outcome
+    requires { ⌜ now table ≡ replicate 65536 0 ⌝ }
+    requires { ⌜ 49152 ≤ length (now bytes) ⌝ }
+    ensures { λ r. ⌜
+        Responds count (now (a .entry)) (now (b .entry)) (now (c .entry)) (now (text .entry)) (now (table .exit)) r
+        ⌝ }
+{
+    let v = decide(count, a, b, c, text, table);
+    answer(v, table, bytes)
 }
 
 // How many words follow the program's own name.
@@ -115,16 +144,16 @@ pub fn program() -> Outcome {
         return Outcome::Unread;
     }
     let got = read.bytes;
-    let v = decide(
+    let mut bytes = print_room();
+    respond(
         count,
         &a[..first],
         &b[..second],
         &c[..third],
         &text[..got],
         &mut table,
-    );
-    let mut bytes = print_room();
-    answer(v, &table, &mut bytes)
+        &mut bytes,
+    )
 }
 
 // Tells an outcome on a descriptor of its own, for whoever started the program with one.

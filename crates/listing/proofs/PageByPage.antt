@@ -15,7 +15,7 @@ use Rattle.model.specs.Calls.{refuseSettings, refusePage, PageReply, replyTo}
 use Rattle.model.specs.Demand.{leftAt, allSteps, allGroups, SomeFinished, Demand3, PageBounds}
 use Rattle.model.specs.Program.{groupLines, held, endLine, Verdict, listing, programVerdict, PrintsAt, Prints}
 use Rattle.theory.specs.Replies.{Replied, Chain}
-use Rattle.theory.specs.Printed.{printedPages, Begins}
+use Rattle.theory.specs.Printed.{printed, printedPages, Begins}
 use Rattle.theory.proofs.basics.Tests.{fails}
 use Rattle.theory.proofs.walk.Remaining.{Fit, fresh-fit}
 use Rattle.theory.proofs.walk.Lawful.{lawful}
@@ -27,6 +27,7 @@ use Rattle.theory.proofs.program.Printed.{held-add}
 use Rattle.theory.proofs.program.Program.{all-groups, pages-begin, pages-listed, pages-print}
 use Rattle.graph.specs.Table.{lent, graphOf}
 use Rattle.graph.proofs.Refusals.{lent-simple}
+use Rattle.print.proofs.Puts.{puts-first}
 use Rattle.rounds.specs.declared.PageAnswer.{PageAnswer}
 use Rattle.rounds.specs.Answer.{PageReplies}
 use Rattle.listing.specs.declared.PageDone.{PageDone}
@@ -167,7 +168,13 @@ module _ {n : ℕ} {t : List ℕ} {s : Settings} (valid : lent n t .fault ≡ 0)
 
   -- ---- the same by what a turn leaves
 
-  module _ {before left after : List ℕ} {r : PageDone} (turned : Turned n t s p out work before left after r) where
+  module _ {before left out' after : List ℕ} {r : PageDone} (turned : Turned n t s p out work before left out' after r) where
+    -- what stands in the buffer is what is printed of the used entries
+    pub turned-printed : take (r .printed) after ≡ printed (take (r .used) out')
+    turned-printed =
+        puts-first (turned .puts)
+        ∙ sym (ap₂ (λ (k : ℕ) (l : List ℕ). printed (take k l)) (turned .used) (turned .output))
+
     module _ {g' k' : ℕ} (gs : g' ≡ held (g + r .groups)) (ks : k' ≡ held (k + r .steps)) where
       same-groups : held (g + reply .groups) ≡ g'
       same-groups = ap (λ (x : ℕ). held (g + x)) (sym (turned .groups)) ∙ sym gs

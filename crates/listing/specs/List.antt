@@ -27,12 +27,14 @@ turnCall n t s out work = record { lent = lent n t; settings = s; budget = 42949
 abbrev pub turnReply : ℕ → List ℕ → Settings → Position → List ℕ → ℕ → PageReply
 turnReply n t s p out work = replyTo (turnCall n t s out work) p
 
--- a page from p leaves its position, its numbers, and its used entries printed from the buffer's start on
-pub record Turned (n : ℕ) (t : List ℕ) (s : Settings) (p out : List ℕ) (work : ℕ) (bytes left printed' : List ℕ) (r : PageDone) : Type 0 where
+-- a page from p leaves its position, its numbers and its output, and its used entries printed from the buffer's start on
+pub record Turned (n : ℕ) (t : List ℕ) (s : Settings) (p out : List ℕ) (work : ℕ) (bytes left out' printed' : List ℕ) (r : PageDone) : Type 0 where
   pub position : left ≡ turnReply n t s p out work .position
   pub finished : r .finished ≡ eqb (turnReply n t s p out work .stop) stoppedFinished
   pub groups : r .groups ≡ turnReply n t s p out work .groups
   pub steps : r .steps ≡ turnReply n t s p out work .steps
+  pub used : r .used ≡ turnReply n t s p out work .used
+  pub output : out' ≡ turnReply n t s p out work .output
   pub puts : Puts bytes 0 (printed (take (turnReply n t s p out work .used) (turnReply n t s p out work .output))) printed' (r .printed)
 
 -- a graph's table and settings without fault, its fresh position, and room for any record, for the work and for what is printed

@@ -1,8 +1,10 @@
 // The listing of a graph: page after page until one says Finished or a write fails, each printed and written at once.
 pub mod totals;
 
+ghost use mathlib.Core.Path.{_≡_};
 ghost use Prim.Native.Nat.{_*_, _≤_};
-ghost use lib.ListN.{length};
+ghost use lib.ListN.{length, take};
+ghost use Rattle.theory.specs.Printed.{printed};
 ghost use Rattle.isolation.specs.Numbers.{settingsOf};
 ghost use Rattle.listing.specs.List.{Turned, ListBegins, Ran};
 use crate::totals::Listed;
@@ -11,19 +13,28 @@ use isolation::Settings;
 use libc::STDOUT_FILENO;
 use print::print_entries;
 
-// Writes the first k bytes of a buffer to standard output, and answers whether all of them were written. No contract can speak of what is
-// written, so none is given; what follows from a failed write is in the contracts of those who call this.
+// Writes the first k bytes of a buffer to standard output, and answers whether all of them were written. No contract can speak of what a write does;
+// what is handed to it is said by those who call this, in what they require.
 pub fn write_first(bytes: &[u8], k: usize) -> bool
     requires { ⌜ k ≤ length (now bytes) ⌝ }
 {
     io::write_all(STDOUT_FILENO, &bytes[..k])
 }
 
-// What a page brought: whether it said Finished, its groups and steps, and how many bytes are printed of it.
+// Writes what is printed of a page's used output entries, the first k bytes of a buffer, and answers whether all of it was written.
+fn write_page(bytes: &[u8], k: usize, output: &[u16], used: usize) -> bool
+    requires { ⌜ k ≤ length (now bytes) ⌝ }
+    requires { ⌜ take k (now bytes) ≡ printed (take used (now output)) ⌝ }
+{
+    write_first(bytes, k)
+}
+
+// What a page brought: whether it said Finished, its groups and steps, its used output entries, and how many bytes are printed of them.
 pub struct PageDone {
     pub finished: bool,
     pub groups: u32,
     pub steps: u32,
+    pub used: usize,
     pub printed: usize,
 }
 
@@ -40,7 +51,7 @@ fn one_page(
     requires { ⌜ 6 * length (now output) ≤ length (now bytes) ⌝ }
     ensures { λ r. ⌜
         Turned n (now (table .entry)) (settingsOf s) (now (position .entry)) (now (output .entry)) (length (now (work .entry)))
-        (now (bytes .entry)) (now (position .exit)) (now (bytes .exit)) r
+        (now (bytes .entry)) (now (position .exit)) (now (output .exit)) (now (bytes .exit)) r
         ⌝ }
 {
     let a = page::page(
@@ -59,6 +70,7 @@ fn one_page(
         finished: a.stop == 1,
         groups: a.groups,
         steps: a.steps,
+        used: a.used,
         printed,
     }
 }
@@ -81,7 +93,7 @@ pub fn list_all(
     let mut steps: u32 = 0;
     loop {
         let t = one_page(table, position, output, work, bytes, n, s);
-        let written = write_first(bytes, t.printed);
+        let written = write_page(bytes, t.printed, output, t.used);
         groups = held_add(groups, t.groups);
         steps = held_add(steps, t.steps);
         if !written {

@@ -40,6 +40,10 @@ puts-length {b} {s} {out} {a} {e} p =
 pub puts-within : {b : List ℕ} {s : ℕ} {out a : List ℕ} {e : ℕ} → Puts b s out a e → e ≤ length a
 puts-within p = let w = p .within in omega (arith, puts-length p)
 
+-- what was put from the start on is what the buffer begins with
+pub puts-first : {b out a : List ℕ} {e : ℕ} → Puts b 0 out a e → take e a ≡ out
+puts-first {b} {out} {a} {e} p = ap (take e) (p .bytes) ∙ take-at out (drop e b) e (let h = p .place in omega arith)
+
 -- one after the other
 pub puts-then : {b : List ℕ} {s : ℕ} {x m : List ℕ} {e : ℕ} {y a : List ℕ} {f : ℕ} → Puts b s x m e → Puts m e y a f → Puts b s (x ++ y) a f
 puts-then {b} {s} {x} {m} {e} {y} {a} {f} p q =

@@ -35,6 +35,8 @@ returns c =
       finished = ap (λ (k : ℕ). eqb k stoppedFinished) (e .stop);
       groups = e .groups;
       steps = e .steps;
+      used = e .used;
+      output = e .output;
       puts = puts-as (ap printed (ap₂ (λ (k : ℕ) (l : List ℕ). take k l) (e .used) (e .output))) (c .before .before .before .print-entries .ensures);
     }
 
