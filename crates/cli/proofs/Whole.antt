@@ -1,7 +1,7 @@
--- What the program prints, by what its functions promise: whatever its words and its text, what its writes are handed is what document 01 says, or, where a
--- write failed, a beginning of the list without a last line. What the library's functions do is taken from their word: that they hand over the words and the
--- text, and write what they are handed. That every page is handed to a write, one after the other, that the last line comes after them, and that the answer
--- of each write is heeded, is in the few lines of `listing::list_all` and `cli::program::answer`, and is tested.
+-- What the program prints, by what its functions promise: whatever its words and its text, it is what document 01 says, or a beginning of the list without a
+-- last line. What the library's functions do is taken from their word: that they hand over the words and the text, and write what they are handed. That every
+-- page is handed to a write, one after the other, that the last line comes after them, and that the list is cut exactly where a write has failed, is in the
+-- few lines of `listing::list_all` and `cli::program::answer`, and is tested.
 -- Assumes nothing.
 use Prim.Native.Nat.{ℕ}
 use mathlib.Core.Path.{_≡_, refl, sym, ap, _∙_, subst}

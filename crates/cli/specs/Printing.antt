@@ -1,4 +1,4 @@
--- What the program prints, as far as its functions promise it: the bytes that are handed to the writes, in their order. Assumes nothing.
+-- What the program prints, as far as its functions promise it: what is printed of its pages, in their order, and its last line. Assumes nothing.
 use Prim.Native.Nat.{ℕ, _*_}
 use mathlib.Core.Path.{_≡_}
 use mathlib.Core.Bool.{Bool, true}
@@ -16,12 +16,12 @@ use Rattle.request.specs.Words.{passes}
 use Rattle.ending.specs.declared.Outcome.{Outcome}
 use Rattle.ending.specs.Ending.{lastLine, outcomeOf}
 
--- what is listed for a verdict: nothing for a refusal, else the pages of its graph
+-- what is listed for a verdict: the pages of its graph; of a refusal nothing is listed, and so nothing is said
 abbrev pub ListedBy : Verdict → List ℕ → Listed → Type 0
 ListedBy (Refused k line) t l = Unit {0}
 ListedBy (Listing s n) t l = Ran n (take (n * n) t) (settingsOf s) l
 
--- an answer: the list of the verdict, and the outcome by both and by whether the last line was written
+-- an answer: the list of the verdict, and the outcome by both and by what the write of the last line answered, which may be either
 pub record Answers (v : Verdict) (t : List ℕ) (o : Outcome) : Type 0 where
   pub list : Listed
   pub listed : ListedBy v t list
@@ -48,8 +48,8 @@ abbrev pub Uncut : Verdict → Listed → Type 0
 Uncut (Refused k line) l = Unit {0}
 Uncut (Listing s n) l = l .whole ≡ true
 
--- The verdict is document 01's. Where nothing was cut, what is handed to the writes, the pages and then the last line, is what document 01 says. Where the
--- list was cut, there is no last line, and the pages are the beginning of what document 01 says.
+-- The verdict is document 01's. Where nothing was cut, what is printed of the pages and then the last line are what document 01 says. Where the list was cut,
+-- there is no last line, and what is printed of the pages is the beginning of what document 01 says.
 pub record PrintsAsSaid (words : List (List ℕ)) (text : List ℕ) (v : Verdict) (t : List ℕ) (l : Listed) (listed : ListedBy v t l) : Type 0 where
   pub verdict : verdictOf v t ≡ programVerdict words text
   pub uncut : Uncut v l → Prints words text (pagesOf v t l listed ++ lastLine v l)

@@ -1,4 +1,4 @@
--- What the listing of a graph promises: the totals of replies to page calls, from the fresh position on until one says Finished.
+-- What the listing of a graph promises: the totals of replies to page calls, from the fresh position on, and whether one of them has said Finished.
 -- Assumes nothing.
 use Prim.Native.Nat.{ℕ, _*_, _≤_}
 use mathlib.Core.Path.{_≡_}
@@ -68,9 +68,9 @@ pub record WholeList (n : ℕ) (t : List ℕ) (s : Settings) (replies : List Pag
   pub full-groups : groups ≡ held (length (fullSets (rules (graphOf n t) s) n))
   pub full-steps : (k : ℕ) × (lasts (rules (graphOf n t) s) k (fresh n) ≡ true) × (steps ≡ held k)
 
--- The replies to page calls, from fresh on, whose pages were handed to the writes: what is printed of them is the beginning of the list's lines, and
--- where the list is said to be whole it is all of them. A list that was cut at a write that failed is never said to be whole before a page has said
--- Finished; that the last page's own write is heeded too is in the code alone, since no contract can speak of a write.
+-- The replies to page calls, from fresh on: what is printed of them is the beginning of the list's lines, and where the list is said to be whole it is all
+-- of them. So a list is said to be whole only after a page has said Finished. That it is cut only at a write that failed, and then always, is in the code
+-- alone: no contract can speak of what a write does.
 pub record Ran (n : ℕ) (t : List ℕ) (s : Settings) (r : Listed) : Type 0 where
   pub replies : List PageReply
   pub chain : Chain (rules (graphOf n t) s) (fresh n) replies
