@@ -57,7 +57,8 @@
  * Stack
  *   No call uses more than ISOLATED_STACK bytes of stack, whatever its arguments. Most is used by the search above,
  *   which calls itself for each vertex that it adds: at most min(c, n - c) - 1 at a time, and so at most 511. That is
- *   tested of this archive, in a thread of that size with a graph that takes the search so deep, and not proved.
+ *   tested of this archive, in a thread of that size and PTHREAD_STACK_MIN with a graph that takes the search so deep,
+ *   and not proved.
  */
 #ifndef ISOLATED_H
 #define ISOLATED_H

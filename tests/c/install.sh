@@ -19,7 +19,7 @@ fresh() {
     echo 'a source' >"$repository/crates/source"
     echo 'ffi:' >"$repository/crates.txt"
     for name in staticlib/libffi.a lib/libisolated.a bin/isolated bin/outcome; do echo "old $name" >"$repository/target/$name"; done
-    for name in bash env dirname readlink realpath rm mkdir cp mv find sed touch chmod cat; do ln -s "$(command -v "$name")" "$commands/$name"; done
+    for name in bash env dirname readlink realpath rm mkdir cp mv find sed touch chmod cat flock; do ln -s "$(command -v "$name")" "$commands/$name"; done
 }
 
 # The kit's stand-in: notes what it is asked for and builds it, unless the command given here ends it before.

@@ -30,6 +30,7 @@ function put(line) {
 }
 
 function put_edge(u, v) {
+    stood++
     if (below(2)) put("e" gap() digits(u) gap() digits(v))
     else put("e" gap() digits(v) gap() digits(u))
 }
@@ -59,15 +60,18 @@ BEGIN {
         loops = below(3) == 0
         mangled = below(4) == 0 ? "\357\273\277" : ""
         started = 0
+        stood = 0
         if (notes) put("c a title")
         word = below(3)
-        put("p" gap() (word == 0 ? "edge" : word == 1 ? "col" : "edges") gap() digits(n) gap() digits(below(2) ? edges : below(50)))
+        put("p" gap() (word == 0 ? "edge" : word == 1 ? "col" : "edges") gap() digits(n) gap() (below(2) ? digits(edges) : "@"))
         for (i = 1; i <= edges; i++) {
             put_edge(from[i], to[i])
             again = 1 + below(i)
             if (repeats && often()) put_edge(from[again], to[again])
             if (loops && often()) put_edge(to[i], to[i])
         }
+        # M counts the edges, or the e lines as they stand.
+        sub(/@/, digits(stood), mangled)
         file = folder "/" number ".mangled"
         printf "%s%s", mangled, (below(4) ? ending : "") > file
         close(file)
