@@ -14,7 +14,7 @@ use Rattle.number.specs.Field.{twoOf}
 use Rattle.number.proofs.Splits.{part-tail}
 use Rattle.lines.specs.Line.{FirstByte}
 use Rattle.theory.proofs.text.EdgeTextFields.{parted, Fields, fields-view, same-word}
-use Rattle.theory.proofs.text.EdgeTextStep.{outBy, repeatedBy, joinedBy}
+use Rattle.theory.proofs.text.EdgeTextStep.{outBy, joinedBy}
 
 -- ---- a fault's test
 
@@ -27,8 +27,8 @@ pub past-fault : (k : ℕ) {b : Bool} {later x : Step} → fault k b later ≡ x
 unfolding fault
 past-fault k {later = later} e t = ap (λ (c : Bool). fault k c later) (sym t) ∙ e
 
--- an e line's tests: 36, 37 and 38
-pub edge-tests : (r : Reading) (u v : ℕ) → fault 36 (outBy (r .vertices) u v) (fault 37 (eqb u v) (fault 38 (repeatedBy r u v) (next (joinedBy r u v)))) ≡ eLine r u v
+-- an e line's tests: 36 and 37
+pub edge-tests : (r : Reading) (u v : ℕ) → fault 36 (outBy (r .vertices) u v) (fault 37 (eqb u v) (next (joinedBy r u v))) ≡ eLine r u v
 unfolding eLine
 edge-tests r u v = refl
 

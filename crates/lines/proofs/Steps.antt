@@ -5,12 +5,12 @@ use mathlib.Core.Bool.{true, false≢true}
 use mathlib.Core.List.{List, _++_}
 use native.Mathlib.Numerals.{add-one}
 use native.Mathlib.Omega.{arith}
-use lib.ListN.{length, getD, take, drop, set, replicate, length-replicate}
-use lib.Seq.{getD-take, take-set-lt, drop-set-lt, take-at, drop-at}
-use borrow.Author.Tests.{ne-eqb, le-ltb}
-use Rattle.model.specs.Text.{Step, bad, next, fault, eLine, pLine, joinPair}
+use lib.ListN.{length, drop, set, replicate, length-replicate}
+use lib.Seq.{take-set-lt, drop-set-lt, take-at, drop-at}
+use borrow.Author.Tests.{le-ltb}
+use Rattle.model.specs.Text.{Step, bad, next, eLine, pLine, joinPair}
 use Rattle.model.specs.EdgeText.{Ends}
-use Rattle.theory.proofs.text.EdgeTextStep.{repeatedBy, joinedBy}
+use Rattle.theory.proofs.text.EdgeTextStep.{joinedBy}
 use Rattle.lines.specs.Line.{readingOf, start, ReadingFits, LineRead}
 use Rattle.lines.specs.declared.Said.{Said}
 use Rattle.lines.specs.declared.Outcome.{Outcome}
@@ -35,24 +35,20 @@ unchanged f e = record { step = e; kept = record { fit = f; rest = refl; grows =
 
 -- ---- an e line in form, of two vertices
 
--- the table's byte of a pair is the slice's
-pub table-byte : {n u v : ℕ} (t : List ℕ) → Ends n u v → getD (take (n * n) t) ((u - 1) * n + (v - 1)) 0 ≡ getD t ((u - 1) * n + (v - 1)) 0
-table-byte {n} {u} {v} t h = getD-take (n * n) t ((u - 1) * n + (v - 1)) 0 (cell h)
-
 -- both cells are set, within the table
-pub joined : {s : Said} {t : List ℕ} {u v : ℕ} → Ends (s .vertices) u v → ReadingFits s (length t) → (getD t ((u - 1) * s .vertices + (v - 1)) 0 ≡ 1 → ⊥)
-    → fault 38 (repeatedBy (readingOf s t) u v) (next (joinedBy (readingOf s t) u v)) ≡ eLine (readingOf s t) u v →
+pub joined : {s : Said} {t : List ℕ} {u v : ℕ} → Ends (s .vertices) u v → ReadingFits s (length t)
+    → next (joinedBy (readingOf s t) u v) ≡ eLine (readingOf s t) u v →
     LineRead (eLine (readingOf s t) u v) s t (set (set t ((u - 1) * s .vertices + (v - 1)) 1) ((v - 1) * s .vertices + (u - 1)) 1)
     (Next (record { passed = true; vertices = s .vertices; stated = s .stated; edges = s .edges + 1 }))
 unfolding joinPair
-joined {s} {t} {u} {v} h fit new e =
+joined {s} {t} {u} {v} h fit e =
     let area = s .vertices * s .vertices in
     let a = (u - 1) * s .vertices + (v - 1) in
     let b = (v - 1) * s .vertices + (u - 1) in
     let wa = cell h in
     let wb = cell (turned h) in
     record {
-      step = rw (add-one (s .edges), take-set-lt area (set t a 1) b 1 wb, take-set-lt area t a 1 wa) (past-fault _ e (ne-eqb _ 1 (λ q. new (sym (table-byte t h) ∙ q))));
+      step = rw (add-one (s .edges), take-set-lt area (set t a 1) b 1 wb, take-set-lt area t a 1 wa) e;
       kept =
           record {
             fit = record { small = fit .small; area = fit .area; stated = fit .stated; fresh = λ q. absurd (false≢true (sym q)) };

@@ -76,7 +76,7 @@ fn problem(table: &mut [u8], n: usize, m: usize) -> Outcome
     })
 }
 
-// An e line's numbers: 36 U or V out of range; 37 U = V; 38 pair repeated.
+// An e line's numbers: 36 U or V out of range; 37 U = V. The line counts and its pair is joined, also where the pair stood before.
 fn edge(table: &mut [u8], s: Said, u: usize, v: usize) -> Outcome
     requires { ⌜ ReadingFits s (length (now table)) ⌝ }
     requires { ⌜ s .edges + 1 < 2 ^ 64 ⌝ }
@@ -101,9 +101,6 @@ fn edge(table: &mut [u8], s: Said, u: usize, v: usize) -> Outcome
         return Outcome::Bad(37);
     }
     let there = a * n + b;
-    if table[there] == 1 {
-        return Outcome::Bad(38);
-    }
     let back = b * n + a;
     table[there] = 1;
     table[back] = 1;

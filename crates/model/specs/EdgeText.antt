@@ -99,7 +99,8 @@ pub record Ends (n u v : ℕ) : Type 0 where
   pub v-to : v ≤ n
   pub differ : u ≢ v
 
--- "One p line stands before all e lines"; "no pair is repeated, in either direction". N is at most 1,024, and a table of N × N bytes has room
+-- "One p line stands before all e lines". N is at most 1,024, and a table of N × N bytes has room. A pair may be given more than once, in either
+-- direction (document 02, C-11)
 pub record Drawn (room n m : ℕ) (xs : List Line) : Type 0 where
   pub comments : List Line
   pub after : List Line
@@ -109,15 +110,14 @@ pub record Drawn (room n m : ℕ) (xs : List Line) : Type 0 where
   pub small : n ≤ 1024
   pub fits : n * n ≤ room
   pub ends : (u v : ℕ) → List·Memᴰ (edge u v) xs → Ends n u v
-  pub once : (front rest : List Line) (u v : ℕ) → xs ≡ front ++ (edge u v ∷ rest) → HasPair front u v → ⊥
 
--- byte u × N + v is 1 where vertices u and v, which the text calls u + 1 and v + 1, are joined, else 0
+-- byte u × N + v is 1 where vertices u and v, which the text calls u + 1 and v + 1, are joined, that is where some e line has their pair, else 0
 pub record Table (n : ℕ) (xs : List Line) (t : List ℕ) : Type 0 where
   pub size : length t ≡ n * n
   pub joined : (u v : ℕ) → u < n → v < n → HasPair xs (suc u) (suc v) → getD t (u * n + v) 0 ≡ 1
   pub apart : (u v : ℕ) → u < n → v < n → (HasPair xs (suc u) (suc v) → ⊥) → getD t (u * n + v) 0 ≡ 0
 
--- the text of a graph of n vertices and m edges with table t, which a slice of `room` bytes can hold; "M is the count of e lines"
+-- the text of a graph of n vertices with table t, which a slice of `room` bytes can hold, in m e lines: "M is the count of e lines"
 pub record EdgeText (room : ℕ) (text : List ℕ) (n m : ℕ) (t : List ℕ) : Type 0 where
   pub lines : List (List ℕ)
   pub said : List Line
@@ -139,7 +139,7 @@ OutOfRange n u v = (u < 1) ⊎ (n < u) ⊎ (v < 1) ⊎ (n < v)
 
 -- The faults of the line l after lines that say xs, in document 01's order: 31 line empty, or first letter not c, p or e, or no space after it
 -- (`c` alone passes); 33 e line before any p line; 34 second p line; 32 another fault of form; 35 N over 1,024; 40 table under N × N; 36 U or V
--- out of range; 37 U = V; 38 pair repeated. By its letter a line is an e line or a p line, whatever follows.
+-- out of range; 37 U = V. By its letter a line is an e line or a p line, whatever follows.
 abbrev pub lineFaults : ℕ → List Line → List ℕ → List Fault
 lineFaults room xs l =
     numbered 31 (Headed l → ⊥)
@@ -150,10 +150,9 @@ lineFaults room xs l =
     ∷ numbered 40 ((n : ℕ) × (m : ℕ) × Spells l (problem n m) × (room < n * n))
     ∷ numbered 36 ((n : ℕ) × (u : ℕ) × (v : ℕ) × Spells l (edge u v) × Passed xs n × OutOfRange n u v)
     ∷ numbered 37 ((u : ℕ) × (v : ℕ) × Spells l (edge u v) × (u ≡ v))
-    ∷ numbered 38 ((u : ℕ) × (v : ℕ) × Spells l (edge u v) × HasPair xs u v)
     ∷ []
 
--- "At the end: 33 no p line, 39 M differs"
+-- "At the end: 33 no p line, 39 M differs", from the count of e lines, repeated ones among them (document 02, C-11)
 abbrev pub endFaults : List Line → List Fault
 endFaults xs =
     numbered 33 ((n : ℕ) → Passed xs n → ⊥)

@@ -75,13 +75,13 @@ pLine room n m =
 unfoldable pub joinPair : ℕ → ℕ → ℕ → List ℕ → List ℕ
 joinPair n u v t = set (set t (u * n + v) 1) (v * n + u) 1
 
--- an e line in form: 36 U or V out of range; 37 U = V; 38 pair repeated
+-- an e line in form: 36 U or V out of range; 37 U = V. It is counted, and its pair is joined, also where the pair stood before
+-- (document 02, C-11: "A repeated pair now counts once in the table. M is still the count of e lines.")
 unfoldable pub eLine : Reading → ℕ → ℕ → Step
 eLine r u v =
     let n = r .vertices in
     fault 36 (eqb u 0 || ltb n u || eqb v 0 || ltb n v)
     (fault 37 (eqb u v)
-    (fault 38 (eqb (getD (r .table) ((u - 1) * n + (v - 1)) 0) 1)
     (next
     (record {
       passed = true;
@@ -89,7 +89,7 @@ eLine r u v =
       stated = r .stated;
       edges = suc (r .edges);
       table = joinPair n (u - 1) (v - 1) (r .table);
-    }))))
+    })))
 
 -- two numbers, or 32
 unfoldable pub two : Option ℕ → Option ℕ → (ℕ → ℕ → Step) → Step

@@ -1,7 +1,7 @@
--- `lines::edge` meets its contract: the tests 36, 37 and 38 in their order, and then both cells of the pair are set.
+-- `lines::edge` meets its contract: the tests 36 and 37 in their order, and then both cells of the pair are set, whatever they held.
 -- Assumes nothing.
 use Prim.Native.Nat.{ℕ, _+_, _*_, _-_, _≤_, _<_}
-use mathlib.Core.Path.{_≡_, ap, _∙_}
+use mathlib.Core.Path.{_≡_, ap}
 use mathlib.Core.Logic.{inl, inr}
 use native.Mathlib.Omega.{arith}
 use lib.ListN.{length-set}
@@ -12,11 +12,11 @@ use Rattle.model.specs.Text.{next, fault, eLine}
 use Rattle.model.specs.EdgeText.{Ends, OutOfRange}
 use Rattle.theory.proofs.basics.Tests.{fails}
 use Rattle.theory.proofs.text.EdgeTextFaults.{not-out-of-range}
-use Rattle.theory.proofs.text.EdgeTextStep.{repeatedBy, joinedBy, out-test}
+use Rattle.theory.proofs.text.EdgeTextStep.{joinedBy, out-test}
 use Rattle.lines.specs.Line.{readingOf}
 use Rattle.lines.proofs.Lines.{at-fault, past-fault, edge-tests}
 use Rattle.lines.proofs.Cells.{area-fits, cell, turned}
-use Rattle.lines.proofs.Steps.{faulty, table-byte, joined}
+use Rattle.lines.proofs.Steps.{faulty, joined}
 use Rattle.lines.proofs.edge.Statement.{statement}
 use Rattle.lines.proofs.edge.Tie as tie
 
@@ -30,7 +30,7 @@ within c (inr (inr (inr h))) = omega (arith, c .before .if3 .left, c .if4 .left)
 past-36 : (c : tie.Else4) →
     let g = c .before .before .before .before .args in
     let r = readingOf (g .s) (g .table .now) in
-    fault 37 (eqb (g .u) (g .v)) (fault 38 (repeatedBy r (g .u) (g .v)) (next (joinedBy r (g .u) (g .v)))) ≡ eLine r (g .u) (g .v)
+    fault 37 (eqb (g .u) (g .v)) (next (joinedBy r (g .u) (g .v))) ≡ eLine r (g .u) (g .v)
 past-36 c = past-fault _ (edge-tests _ _ _) (fails _ (λ e. within c (out-test _ _ _ .0 e)))
 
 -- past the fifth they differ, and are the ends of an edge
@@ -40,7 +40,7 @@ ends c = not-out-of-range _ _ _ (within (c .before)) (λ e. c .if5 .left (ap (λ
 past-37 : (c : tie.Else5) →
     let g = c .before .before .before .before .before .args in
     let r = readingOf (g .s) (g .table .now) in
-    fault 38 (repeatedBy r (g .u) (g .v)) (next (joinedBy r (g .u) (g .v))) ≡ eLine r (g .u) (g .v)
+    next (joinedBy r (g .u) (g .v)) ≡ eLine r (g .u) (g .v)
 past-37 c = past-fault _ (past-36 (c .before)) (ne-eqb _ _ (ends c .differ))
 
 -- so both cells are within the table, which is small
@@ -82,39 +82,31 @@ mul-there c = omega (arith, inside c)
 add-there : tie.Need-add-there
 add-there c = omega (arith, inside c)
 
-slice-read-if6 : tie.Need-slice-read-if6
-slice-read-if6 c = omega (arith, inside (c .before), (c .before .before .before .before .before .before .pre .0) .area)
-
-returns-6 : tie.Need-returns-6
-returns-6 c =
-    let e = c .before .before in
-    faulty (at-fault _ (past-37 e) (eq-eqb _ _ (table-byte _ (ends e) ∙ c .if6 .taken)))
-
 mul-back : tie.Need-mul-back
-mul-back c = omega (arith, inside (c .before .before))
+mul-back c = omega (arith, inside c)
 
 add-back : tie.Need-add-back
-add-back c = omega (arith, inside (c .before .before))
+add-back c = omega (arith, inside c)
 
 slice-write-table : tie.Need-slice-write-table
-slice-write-table c = omega (arith, inside (c .before .before), (c .before .before .before .before .before .before .before .pre .0) .area)
+slice-write-table c = omega (arith, inside c, (c .before .before .before .before .before .pre .0) .area)
 
 slice-write-table-2 : tie.Need-slice-write-table-2
-slice-write-table-2 c = simp length-set (omega (arith, inside (c .before .before), (c .before .before .before .before .before .before .before .pre .0) .area))
+slice-write-table-2 c = simp length-set (omega (arith, inside c, (c .before .before .before .before .before .pre .0) .area))
 
 add-t11 : tie.Need-add-t11
-add-t11 c = omega (arith, c .before .before .before .before .before .before .before .before .pre .1)
+add-t11 c = omega (arith, c .before .before .before .before .before .before .pre .1)
 
 same-length : tie.Need-same-length
 same-length c = simp length-set
 
-returns-7 : tie.Need-returns-7
-returns-7 c =
-    let e = c .before .before .before in
-    joined (ends e) (e .before .before .before .before .before .pre .0) (c .before .if6 .left) (past-37 e)
+returns-6 : tie.Need-returns-6
+returns-6 c =
+    let e = c .before in
+    joined (ends e) (e .before .before .before .before .before .pre .0) (past-37 e)
 
 pub edge-spec : {M : Type 1} → statement M
 edge-spec =
     tie.close
-    (tie.spec returns (λ c. search needs) returns-2 returns-3 (λ c. search needs) returns-4 returns-5 mul-there add-there slice-read-if6 returns-6 mul-back
-    add-back slice-write-table slice-write-table-2 add-t11 same-length returns-7)
+    (tie.spec returns (λ c. search needs) returns-2 returns-3 (λ c. search needs) returns-4 returns-5 mul-there add-there mul-back add-back slice-write-table
+    slice-write-table-2 add-t11 same-length returns-6)

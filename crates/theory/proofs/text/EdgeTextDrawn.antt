@@ -1,13 +1,12 @@
 -- The lines of a graph one after another: comments, the p line, and then lines that each add a pair or nothing.
 -- Assumes nothing.
 use Prim.Native.Nat.{ℕ, _+_, _*_, _≤_}
-use mathlib.Core.Path.{_≡_, refl, sym, ap, ap₂, _∙_, subst}
+use mathlib.Core.Path.{_≡_, refl, sym, ap, _∙_, subst}
 use mathlib.Core.Logic.{_⊎_, inl, inr, ⊎-elim}
 use mathlib.Core.List.{List, [], _∷_, _++_, append-assoc, List·Memᴰ, List·Memᴰ·head, List·Memᴰ·tail, List·Memᴰ·not-nil, List·Memᴰ·cases-cons, List·Memᴰ·append-cases, List·Memᴰ·eq-of-singleton, Memᴰ·append-right}
 use native.Mathlib.Omega.{arith}
 use lib.ListN.{getD, drop}
 use Rattle.model.specs.EdgeText.{Line, comment, problem, edge, edges, HasPair, Ends, Drawn, Passed}
-use Rattle.theory.proofs.text.EdgeTextLines.{cons-not-nil}
 use Rattle.theory.proofs.text.EdgeTextSpelling.{letterOf}
 
 -- ---- three kinds of line
@@ -54,23 +53,6 @@ head-same x y xs ys e = ap (λ (l : List Line). getD l 0 comment) e
 
 tail-same : (x y : Line) (xs ys : List Line) → x ∷ xs ≡ y ∷ ys → xs ≡ ys
 tail-same x y xs ys e = ap (λ (l : List Line). drop 1 l) e
-
-not-nil-append : (front rest : List Line) (y : Line) → [] ≡ front ++ (y ∷ rest) → ⊥
-not-nil-append [] rest y e = cons-not-nil y rest (sym e)
-not-nil-append (f ∷ front) rest y e = cons-not-nil f (front ++ (y ∷ rest)) (sym e)
-
--- a place in xs and one more line is a place in xs, or the last
-last-or-place : (xs : List Line) (x : Line) (front rest : List Line) (y : Line) → xs ++ (x ∷ []) ≡ front ++ (y ∷ rest)
-    → ((more : List Line) × (xs ≡ front ++ (y ∷ more))) ⊎ ((xs ≡ front) × (x ≡ y))
-last-or-place [] x [] rest y e = inr (refl, head-same x y [] rest e)
-last-or-place [] x (f ∷ front) rest y e = absurd (not-nil-append front rest y (tail-same x f [] (front ++ (y ∷ rest)) e))
-last-or-place (a ∷ xs) x [] rest y e = inl (xs, ap (λ (z : Line). z ∷ xs) (head-same a y (xs ++ (x ∷ [])) rest e))
-last-or-place (a ∷ xs) x (f ∷ front) rest y e =
-    let h = head-same a f (xs ++ (x ∷ [])) (front ++ (y ∷ rest)) e in
-    ⊎-elim
-    (λ r. inl (r .0, ap₂ {C = List Line} (λ (z : Line) (zs : List Line). z ∷ zs) h (r .1)))
-    (λ r. inr (ap₂ {C = List Line} (λ (z : Line) (zs : List Line). z ∷ zs) h (r .0), r .1))
-    (last-or-place xs x front rest y (tail-same a f (xs ++ (x ∷ [])) (front ++ (y ∷ rest)) e))
 
 -- ---- lines before the p line
 
@@ -121,8 +103,6 @@ begun room n m xs h small fits =
       small = small;
       fits = fits;
       ends = λ u v d. absurd (comments-edgeless xs h n m u v d);
-      once = λ front rest u v e j.
-          comments-edgeless xs h n m u v (subst (List·Memᴰ (edge u v)) (sym e) (Memᴰ·append-right front (List·Memᴰ·head refl)));
     }
 
 -- ---- lines after it
@@ -140,10 +120,9 @@ module _ (room n m : ℕ) (xs : List Line) (d : Drawn room n m xs) where
       (λ c. ⊎-elim (λ e. e) (λ r. absurd (d .no-second a b r)) (List·Memᴰ·cases-cons c))
       (List·Memᴰ·append-cases (d .comments) (subst (List·Memᴰ (problem a b)) (d .lines) i))
 
-  -- one more line, which is no p line, and whose pair is new
-  pub drawn-more : (x : Line) → ((a b : ℕ) → problem a b ≡ x → ⊥) → ((u v : ℕ) → edge u v ≡ x → Ends n u v)
-      → ((u v : ℕ) → edge u v ≡ x → HasPair xs u v → ⊥) → Drawn room n m (xs ++ (x ∷ []))
-  drawn-more x no-problem in-range is-new =
+  -- one more line, which is no p line
+  pub drawn-more : (x : Line) → ((a b : ℕ) → problem a b ≡ x → ⊥) → ((u v : ℕ) → edge u v ≡ x → Ends n u v) → Drawn room n m (xs ++ (x ∷ []))
+  drawn-more x no-problem in-range =
       record {
         comments = d .comments;
         after = d .after ++ (x ∷ []);
@@ -153,11 +132,6 @@ module _ (room n m : ℕ) (xs : List Line) (d : Drawn room n m xs) where
         small = d .small;
         fits = d .fits;
         ends = λ u v i. ⊎-elim (d .ends u v) (λ c. in-range u v (List·Memᴰ·eq-of-singleton c)) (List·Memᴰ·append-cases xs i);
-        once = λ front rest u v e j.
-            ⊎-elim
-            (λ r. d .once front (r .0) u v (r .1) j)
-            (λ r. is-new u v (sym (r .1)) (subst (λ (l : List Line). HasPair l u v) (sym (r .0)) j))
-            (last-or-place xs x front rest (edge u v) e);
       }
 
   -- before the p line stand comments only

@@ -7,7 +7,7 @@ use mathlib.Core.List.{List}
 use native.Mathlib.Omega.{arith}
 use lib.ListN.{getD, drop}
 use Rattle.model.specs.Fault.{FirstFault, NoFault}
-use Rattle.model.specs.EdgeText.{Letter, Headed, Line, comment, problem, edge, Spells, HasPair, Ends, Passed, OutOfRange, lineFaults}
+use Rattle.model.specs.EdgeText.{Letter, Headed, Line, comment, problem, edge, Spells, Ends, Passed, OutOfRange, lineFaults}
 use Rattle.theory.proofs.calls.Fault.{none-of}
 use Rattle.theory.proofs.text.EdgeTextSpelling.{letter-first, spells-letter, says-one}
 use Rattle.theory.proofs.text.EdgeTextDrawn.{problem-first, edge-first, edge-second}
@@ -54,7 +54,6 @@ module _ (room : ℕ) (xs : List Line) (l : List ℕ) where
       (λ h. no-problem 99 (h .0) (h .1) c (omega arith) (h .2))
       (λ h. no-edge 99 (h .1) (h .2) c (omega arith) (h .3))
       (λ h. no-edge 99 (h .0) (h .1) c (omega arith) (h .2))
-      (λ h. no-edge 99 (h .0) (h .1) c (omega arith) (h .2))
     where
       c : getD l 0 0 ≡ 99
       c = spells-letter l comment s
@@ -98,7 +97,6 @@ module _ (room : ℕ) (xs : List Line) (l : List ℕ) where
         (λ h. few-bytes n m s fits (h .0) (h .1) (h .2) (h .3))
         (λ h. no-edge 112 (h .1) (h .2) c (omega arith) (h .3))
         (λ h. no-edge 112 (h .0) (h .1) c (omega arith) (h .2))
-        (λ h. no-edge 112 (h .0) (h .1) c (omega arith) (h .2))
       where
         c : getD l 0 0 ≡ 112
         c = letter-first 112 l p
@@ -111,7 +109,7 @@ module _ (room : ℕ) (xs : List Line) (l : List ℕ) where
     edge-first-at n has k d =
         inr (λ f. f (inr (inr (inr e))), inr (λ h. h .1 n has, inr (λ h. no-letter 101 112 (letter-first 101 l e) (omega arith) (h .0), d)))
 
-    -- and of the others, where it spells U and V, only 36 to 38
+    -- and of the others, where it spells U and V, only 36 and 37
     module _ (u v : ℕ) (s : Spells l (edge u v)) where
       -- its first fault is the first from 36 on
       pub edge-pair-at : (n : ℕ) → Passed xs n → (k : ℕ) → FirstFault (drop 6 (lineFaults room xs l)) k → FirstFault (lineFaults room xs l) k
@@ -137,9 +135,9 @@ module _ (room : ℕ) (xs : List Line) (l : List ℕ) where
       pub not-out : (n : ℕ) → ((a : ℕ) → Passed xs a → a ≡ n) → (OutOfRange n u v → ⊥) → (a b c : ℕ) → Spells l (edge b c) → Passed xs a → OutOfRange a b c → ⊥
       not-out n one h a b c t p o = h (subst (λ (k : ℕ). OutOfRange k u v) (one a p) (same-pair (OutOfRange a) b c t o))
 
-      -- a new pair of two vertices has none
-      pub edge-faultless : (n : ℕ) → Passed xs n → ((a : ℕ) → Passed xs a → a ≡ n) → Ends n u v → (HasPair xs u v → ⊥) → NoFault (lineFaults room xs l)
-      edge-faultless n has one h new =
+      -- a pair of two vertices has none
+      pub edge-faultless : (n : ℕ) → Passed xs n → ((a : ℕ) → Passed xs a → a ≡ n) → Ends n u v → NoFault (lineFaults room xs l)
+      edge-faultless n has one h =
           none-of (lineFaults room xs l)
           (λ f. f (inr (inr (inr e))))
           (λ g. g .1 n has)
@@ -149,7 +147,6 @@ module _ (room : ℕ) (xs : List Line) (l : List ℕ) where
           (λ g. no-problem 101 (g .0) (g .1) c (omega arith) (g .2))
           (λ g. not-out n one (in-range n u v h) (g .0) (g .1) (g .2) (g .3) (g .4) (g .5))
           (λ g. h .differ (same-pair (λ (a b : ℕ). a ≡ b) (g .0) (g .1) (g .2) (g .3)))
-          (λ g. new (same-pair (HasPair xs) (g .0) (g .1) (g .2) (g .3)))
         where
           c : getD l 0 0 ≡ 101
           c = letter-first 101 l e

@@ -57,7 +57,6 @@ module _ (room n m : ℕ) where
       edge-faultless room before l (s .first ++ (32 ∷ s .second), s .bytes) u v s n (m, before-edge room n m whole d before xs u v refl)
       (λ a p. problem-first a (p .0) n m (drawn-one room n m whole d a (p .0) (Memᴰ·append-left (edge u v ∷ xs) (p .1))))
       (d .ends u v (Memᴰ·append-right before (List·Memᴰ·head refl)))
-      (d .once before xs u v refl)
 
   -- the lines of a graph, one after another, are without fault
   pub drawn-faultless : (before : List Line) (ls : List (List ℕ)) (xs : List Line) → Drawn room n m (before ++ xs) → SpellAll ls xs → Faultless room before ls xs

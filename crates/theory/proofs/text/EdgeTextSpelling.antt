@@ -151,26 +151,20 @@ abbrev numberIn : Step → ℕ
 numberIn (bad k) = k
 numberIn (next s) = 0
 
-among-edge-faults : (a b c : Bool) (s : Reading) → numberIn (fault 36 a (fault 37 b (fault 38 c (next s)))) ≢ 32
+-- two tests whose numbers are not 32
+neither-32 : (j k : ℕ) → j ≢ 32 → k ≢ 32 → (a b : Bool) (s : Reading) → numberIn (fault j a (fault k b (next s))) ≢ 32
 unfolding fault
-among-edge-faults true b c s = omega arith
-among-edge-faults false true c s = omega arith
-among-edge-faults false false true s = omega arith
-among-edge-faults false false false s = omega arith
+neither-32 j k hj hk true b s = hj
+neither-32 j k hj hk false true s = hk
+neither-32 j k hj hk false false s = omega arith
 
 edge-faults : (r : Reading) (u v : ℕ) → numberIn (eLine r u v) ≢ 32
 unfolding eLine
-edge-faults r u v = among-edge-faults _ _ _ _
-
-among-problem-faults : (a b : Bool) (s : Reading) → numberIn (fault 35 a (fault 40 b (next s))) ≢ 32
-unfolding fault
-among-problem-faults true b s = omega arith
-among-problem-faults false true s = omega arith
-among-problem-faults false false s = omega arith
+edge-faults r u v = neither-32 36 37 (omega arith) (omega arith) _ _ _
 
 problem-faults : (room n m : ℕ) → numberIn (pLine room n m) ≢ 32
 unfolding pLine
-problem-faults room n m = among-problem-faults _ _ _
+problem-faults room n m = neither-32 35 40 (omega arith) (omega arith) _ _ _
 
 -- the reader goes on with the U and V that an e line spells
 pub edge-step : (r : Reading) (l : List ℕ) (u v : ℕ) → Spells l (edge u v) → eFields r (fieldsOf l) ≡ eLine r u v

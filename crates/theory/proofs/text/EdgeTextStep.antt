@@ -6,17 +6,17 @@ use mathlib.Core.Logic.{_≢_, _⊎_, inl, inr, ⊎-elim}
 use mathlib.Core.Bool.{Bool, true, false, _||_, not, false≢true}
 use mathlib.Core.List.{List, [], _∷_, _++_}
 use native.Mathlib.Omega.{arith}
-use lib.ListN.{getD, replicate}
+use lib.ListN.{replicate}
 use lib.Dec.{ltb, eqb}
 use borrow.Author.Tests.{ltb-true, ltb-false, eqb-true, eqb-false}
 use Rattle.model.specs.Text.{fieldsOf, Reading, Step, bad, next, fault, pLine, joinPair, eLine, pFields, eFields, lineStep}
 use Rattle.model.specs.Fault.{FirstFault, NoFault}
-use Rattle.model.specs.EdgeText.{Letter, Line, comment, problem, edge, Spells, edges, HasPair, Ends, Drawn, Table, Passed, OutOfRange, lineFaults}
+use Rattle.model.specs.EdgeText.{Letter, Line, comment, problem, edge, Spells, edges, Ends, Drawn, Table, Passed, OutOfRange, lineFaults}
 use Rattle.theory.proofs.basics.Tests.{Test, test-or, test-lt, test-eq}
 use Rattle.theory.proofs.text.EdgeTextSpelling.{letter-first, Kind, of-none, of-comment, of-problem, of-edge, kind, edge-step, edge-view, problem-step, problem-view}
-use Rattle.theory.proofs.text.EdgeTextFaults.{comment-faultless, few-vertices, problem-first-at, problem-faultless, edge-first-at, edge-pair-at, not-out-of-range, not-out, same-pair, edge-faultless}
+use Rattle.theory.proofs.text.EdgeTextFaults.{comment-faultless, few-vertices, problem-first-at, problem-faultless, edge-first-at, edge-pair-at, not-out-of-range, not-out, edge-faultless}
 use Rattle.theory.proofs.text.EdgeTextDrawn.{comment-not-problem, comment-not-edge, edge-not-problem, problem-first, edge-first, edge-second, edges-append, Comments, comments-more, comments-unpassed, comments-joinless, begun, begun-edges, drawn-in, drawn-one, drawn-more}
-use Rattle.theory.proofs.text.EdgeTextTable.{table-none, table-keeps, table-joins, byte-test}
+use Rattle.theory.proofs.text.EdgeTextTable.{table-none, table-keeps, table-joins}
 
 -- ---- the reader's state after lines
 
@@ -83,10 +83,6 @@ out-test n u v = (λ e. there (tests .0 e), λ o. tests .1 (back o))
     back (inr (inr (inl q))) = inl (inr (omega arith))
     back (inr (inr (inr q))) = inr q
 
--- 38: the cell of the pair is set
-abbrev pub repeatedBy : Reading → ℕ → ℕ → Bool
-repeatedBy r u v = eqb (getD (r .table) ((u - 1) * r .vertices + (v - 1)) 0) 1
-
 -- ---- the step
 
 module _ (room : ℕ) (xs : List Line) (l : List ℕ) where
@@ -132,7 +128,7 @@ module _ (room : ℕ) (xs : List Line) (l : List ℕ) where
       in-test : outBy (r .vertices) u v ≡ false → OutOfRange (r .vertices) u v → ⊥
       in-test h o = false≢true (sym h ∙ out-test (r .vertices) u v .1 o)
 
-      -- the byte at U - 1 and V - 1, for U and V in range
+      -- the bytes of U - 1 and V - 1, for U and V in range
       module _ (h : Ends (r .vertices) u v) where
         u-is : suc (u - 1) ≡ u
         u-is = let q = h .u-from in omega arith
@@ -146,19 +142,13 @@ module _ (room : ℕ) (xs : List Line) (l : List ℕ) where
         v-below : v - 1 < r .vertices
         v-below = let p = h .v-from in let q = h .v-to in omega arith
 
-        repeated-test : Test (repeatedBy r u v) (HasPair xs u v)
-        repeated-test =
-            subst₂ (λ (a b : ℕ). Test (repeatedBy r u v) (HasPair xs a b)) u-is v-is
-            (byte-test (r .vertices) xs (r .table) (g .table) (u - 1) (v - 1) u-below v-below)
-
-        joined-going : (HasPair xs u v → ⊥) → Going room (xs ++ (edge u v ∷ [])) (joinedBy r u v)
-        joined-going new =
+        joined-going : Going room (xs ++ (edge u v ∷ [])) (joinedBy r u v)
+        joined-going =
             record {
               passed = refl;
               drawn = drawn-more room (r .vertices) (r .stated) xs (g .drawn) (edge u v)
                   (λ a b q. edge-not-problem u v a b (sym q))
-                  (λ a b q. subst₂ (Ends (r .vertices)) (sym (edge-first a b u v q)) (sym (edge-second a b u v q)) h)
-                  (λ a b q j. new (subst₂ (HasPair xs) (edge-first a b u v q) (edge-second a b u v q) j));
+                  (λ a b q. subst₂ (Ends (r .vertices)) (sym (edge-first a b u v q)) (sym (edge-second a b u v q)) h);
               count = let q = edges-append xs (edge u v ∷ []) in let c = g .count in omega arith;
               table = subst₂ (λ (a b : ℕ). Table (r .vertices) (xs ++ (edge a b ∷ [])) (joinPair (r .vertices) (u - 1) (v - 1) (r .table))) u-is v-is
                   (table-joins (r .vertices) xs (r .table) (g .table) (u - 1) (v - 1) u-below v-below);
@@ -166,13 +156,12 @@ module _ (room : ℕ) (xs : List Line) (l : List ℕ) where
 
       edge-finds : Finds room xs l (eLine r u v)
       unfolding eLine fault FirstFault
-      edge-finds = go (outBy (r .vertices) u v) (eqb u v) (repeatedBy r u v) refl refl refl
+      edge-finds = go (outBy (r .vertices) u v) (eqb u v) refl refl
         where
-          go : (a b c : Bool) → outBy (r .vertices) u v ≡ a → eqb u v ≡ b → repeatedBy r u v ≡ c
-              → Finds room xs l (fault 36 a (fault 37 b (fault 38 c (next (joinedBy r u v)))))
-          go true b c ea eb ec =
+          go : (a b : Bool) → outBy (r .vertices) u v ≡ a → eqb u v ≡ b → Finds room xs l (fault 36 a (fault 37 b (next (joinedBy r u v))))
+          go true b ea eb =
               (λ z. omega arith, edge-pair-at room xs l e u v s (r .vertices) (has-problem room xs r g) 36 (inl ((r .vertices, u, v, s, has-problem room xs r g, out-test (r .vertices) u v .0 ea), refl)))
-          go false true c ea eb ec = (
+          go false true ea eb = (
             λ z. omega arith,
             edge-pair-at room xs l e u v s (r .vertices) (has-problem room xs r g) 37
                 (inr (
@@ -180,22 +169,9 @@ module _ (room : ℕ) (xs : List Line) (l : List ℕ) where
                   inl ((u, v, s, eqb-true u v eb), refl),
                 )),
           )
-          go false false true ea eb ec =
-              let h = not-out-of-range (r .vertices) u v (in-test ea) (eqb-false u v eb) in (
-                λ z. omega arith,
-                edge-pair-at room xs l e u v s (r .vertices) (has-problem room xs r g) 38
-                    (inr (
-                      λ f. not-out room xs l e u v s (r .vertices) (one-problem room xs r g) (in-test ea) (f .0) (f .1) (f .2) (f .3) (f .4) (f .5),
-                      inr (
-                        λ f. h .differ (same-pair room xs l e u v s (λ (a b : ℕ). a ≡ b) (f .0) (f .1) (f .2) (f .3)),
-                        inl ((u, v, s, repeated-test h .0 ec), refl),
-                      ),
-                    )),
-              )
-          go false false false ea eb ec =
+          go false false ea eb =
               let h = not-out-of-range (r .vertices) u v (in-test ea) (eqb-false u v eb) in
-              let new : HasPair xs u v → ⊥ = λ j. false≢true (sym ec ∙ repeated-test h .1 j) in
-              (edge u v, s, edge-faultless room xs l e u v s (r .vertices) (has-problem room xs r g) (one-problem room xs r g) h new, inr (joined-going h new))
+              (edge u v, s, edge-faultless room xs l e u v s (r .vertices) (has-problem room xs r g) (one-problem room xs r g) h, inr (joined-going h))
 
   -- a comment changes nothing
   after-comment : (r : Reading) → State room xs r → State room (xs ++ (comment ∷ [])) r
@@ -205,7 +181,7 @@ module _ (room : ℕ) (xs : List Line) (l : List ℕ) where
       (record {
         passed = g .passed;
         drawn = drawn-more room (r .vertices) (r .stated) xs (g .drawn) comment comment-not-problem
-            (λ u v e. absurd (comment-not-edge u v e)) (λ u v e j. comment-not-edge u v e);
+            (λ u v e. absurd (comment-not-edge u v e));
         count = let q = edges-append xs (comment ∷ []) in let c = g .count in omega arith;
         table = table-keeps (r .vertices) xs comment (r .table) comment-not-edge (g .table);
       })
