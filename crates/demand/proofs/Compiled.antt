@@ -1,4 +1,4 @@
--- Demands 2 and 3 hold of the compiled functions `page::page`, `query::set_query` and `dimacs::read_text`, and of the exported ones of crate `ffi` that C
+-- Demands 2 and 3 and C-11 hold of the compiled functions `page::page`, `query::set_query` and `dimacs::read_text`, and of the exported ones of crate `ffi` that C
 -- and Rust link. Nothing of a contract is restated: `promised` is the contract that the checker proved.
 -- Assumes nothing.
 use mathlib.Core.List.{List, [], _∷_, map}
@@ -16,9 +16,10 @@ use Rattle.ffi.proofs.isolated_page.Reads as exported-page
 use Rattle.ffi.proofs.isolated_set_query.Reads as exported-query
 use Rattle.ffi.proofs.isolated_read_text.Reads as exported-reader
 use Rattle.demand.specs.Demand.{Promised, Calls}
-use Rattle.demand.specs.Compiled.{AsksNothing, CompiledPage, callOf, Chained, PageHolds, ListHolds, QueryHolds, ReaderHolds}
+use Rattle.demand.specs.Compiled.{AsksNothing, CompiledPage, callOf, Chained, PageHolds, ListHolds, QueryHolds, ReaderHolds, Never38Holds, ComparesLinesHolds, RepeatsHold}
 use Rattle.demand.proofs.Demand.{demand}
 use Rattle.demand.proofs.Membership.{query-demand, list-demand, reader-demand}
+use Rattle.demand.proofs.Repeats.{never-38-demand, compares-lines-demand, repeats-demand}
 
 -- ---- none of these functions asks for anything
 
@@ -83,3 +84,23 @@ compiled-reader-demand k = reader-demand _ _ _ _ (k .promised)
 -- Demand 2 of `isolated_read_text`.
 pub exported-reader-demand : ReaderHolds exported-reader.Post
 exported-reader-demand k = reader-demand _ _ _ _ (k .promised)
+
+-- C-11 of `dimacs::read_text`.
+pub compiled-never-38 : Never38Holds reader.Post
+compiled-never-38 k = never-38-demand _ _ _ _ (k .promised)
+
+pub compiled-compares-lines : ComparesLinesHolds reader.Post
+compiled-compares-lines k = compares-lines-demand _ _ _ _ (k .promised)
+
+pub compiled-repeats : RepeatsHold reader.Post
+compiled-repeats k l = repeats-demand _ _ _ _ (k .promised) _ _ _ _ (l .promised)
+
+-- C-11 of `isolated_read_text`.
+pub exported-never-38 : Never38Holds exported-reader.Post
+exported-never-38 k = never-38-demand _ _ _ _ (k .promised)
+
+pub exported-compares-lines : ComparesLinesHolds exported-reader.Post
+exported-compares-lines k = compares-lines-demand _ _ _ _ (k .promised)
+
+pub exported-repeats : RepeatsHold exported-reader.Post
+exported-repeats k l = repeats-demand _ _ _ _ (k .promised) _ _ _ _ (l .promised)

@@ -1,10 +1,11 @@
--- What demands 2 and 3 say of a compiled function, over its contract as the checker itself reads it from the function's source and proves it: `Post` is
+-- What demands 2 and 3 and the request C-11 say of a compiled function, over its contract as the checker itself reads it from the function's source and proves it: `Post` is
 -- that contract, of the arguments, the answer and the memory at exit.
 -- Assumes nothing.
 use Prim.Native.Nat.{ℕ}
 use mathlib.Core.Path.{_≡_}
 use mathlib.Core.Logic.{_↔_}
 use mathlib.Core.List.{List, [], _∷_, map}
+use lib.ListN.{length}
 use contract.Lifetimes.{Lfts}
 use borrow.Fn.Kinds.{PK, RK, In, Out, Dens, resT, endedOf}
 use denote.Triple.Clauses.{AtExit}
@@ -15,12 +16,14 @@ use Rattle.model.specs.Walk.{Position, fresh, records}
 use Rattle.model.specs.Listing.{rules}
 use Rattle.model.specs.Calls.{byBytes}
 use Rattle.model.specs.Demand.{joinedOutput, SomeFinished}
+use Rattle.model.specs.Repeats.{DifferInRepeats}
 use Rattle.graph.specs.Table.{lent, graphOf}
 use Rattle.page.proofs.page.Kinds as page-kinds
 use Rattle.query.proofs.set_query.Kinds as query-kinds
 use Rattle.dimacs.proofs.read_text.Kinds as reader-kinds
 use Rattle.demand.specs.Demand.{MadeCall, reported, PageDemand}
 use Rattle.demand.specs.Membership.{TextDemand}
+use Rattle.demand.specs.Repeats.{Never38, ComparesLines, SameTable}
 
 -- A call of a compiled function: any arguments, answer and memory at exit that its contract allows.
 pub record Compiled (m : ℕ) (ps : List (PK m)) (r : RK m) (Post : Out m ps r) : Type 0 where
@@ -96,11 +99,35 @@ QueryHolds Post =
 
 -- ---- the text reader
 
--- Demand 2 of a compiled text reader, with the parameters text and table: it reads a text exactly where it is an edge text, and gives its graph.
+-- a call of a function with the parameters and the answer of `dimacs::read_text`
+abbrev pub CompiledRead : Out 2 reader-kinds.ps reader-kinds.r → Type 0
+CompiledRead Post = Compiled 2 reader-kinds.ps reader-kinds.r Post
+
+-- its text, and the table slice as it was lent and as it was left
+module _ {Post : Out 2 reader-kinds.ps reader-kinds.r} (k : CompiledRead Post) where
+  abbrev pub textOf : List ℕ
+  textOf = k .arguments .0 .now
+
+  abbrev pub tableLent : List ℕ
+  tableLent = k .arguments .1 .0 .now
+
+  abbrev pub tableLeft : List ℕ
+  tableLeft = k .at-exit .1 .0 .now
+
+-- Demand 2 of a compiled text reader: it reads a text exactly where it is an edge text, and gives its graph.
 abbrev pub ReaderHolds : Out 2 reader-kinds.ps reader-kinds.r → Type 0
-ReaderHolds Post =
-    (k : Compiled 2 reader-kinds.ps reader-kinds.r Post)
-    → let text = k .arguments .0 .now in
-    let table = k .arguments .1 .0 .now in
-    let table-left = k .at-exit .1 .0 .now in
-    TextDemand text table table-left (k .answer)
+ReaderHolds Post = (k : CompiledRead Post) → TextDemand (textOf k) (tableLent k) (tableLeft k) (k .answer)
+
+-- C-11 of a compiled text reader: it never answers 38;
+abbrev pub Never38Holds : Out 2 reader-kinds.ps reader-kinds.r → Type 0
+Never38Holds Post = (k : CompiledRead Post) → Never38 (k .answer)
+
+-- it answers 39 exactly where M differs from the number of e lines and nothing else is at fault;
+abbrev pub ComparesLinesHolds : Out 2 reader-kinds.ps reader-kinds.r → Type 0
+ComparesLinesHolds Post = (k : CompiledRead Post) → ComparesLines (textOf k) (tableLent k) (k .answer)
+
+-- and texts that differ only in repeated e lines, each with its own right M, give the same table.
+abbrev pub RepeatsHold : Out 2 reader-kinds.ps reader-kinds.r → Type 0
+RepeatsHold Post =
+    (k l : CompiledRead Post) → length (tableLent k) ≡ length (tableLent l) → DifferInRepeats (textOf k) (textOf l)
+    → SameTable (tableLent k) (tableLeft k) (k .answer) (tableLent l) (tableLeft l) (l .answer)

@@ -1,6 +1,5 @@
 -- The two cells of a pair, and the size of the table. Assumes nothing.
 use Prim.Native.Nat.{ℕ, _+_, _*_, _-_, _≤_, _<_}
-use mathlib.Core.Path.{sym}
 use native.Mathlib.Nat.{mul-le-mul}
 use native.Mathlib.Omega.{arith}
 use Rattle.model.specs.EdgeText.{Ends}
@@ -13,7 +12,3 @@ area-fits n h = mul-le-mul h h
 -- the cell of a pair is within the table
 pub cell : {n u v : ℕ} → Ends n u v → (u - 1) * n + (v - 1) < n * n
 cell {n} {u} {v} h = omega (arith, row-end n (u - 1) (omega (arith, h .u-from, h .u-to)), h .v-from, h .v-to)
-
--- and so is the cell of the pair the other way round
-pub turned : {n u v : ℕ} → Ends n u v → Ends n v u
-turned h = record { u-from = h .v-from; u-to = h .v-to; v-from = h .u-from; v-to = h .u-to; differ = λ e. h .differ (sym e) }

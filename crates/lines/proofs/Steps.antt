@@ -10,12 +10,13 @@ use lib.Seq.{take-set-lt, drop-set-lt, take-at, drop-at}
 use borrow.Author.Tests.{le-ltb}
 use Rattle.model.specs.Text.{Step, bad, next, eLine, pLine, joinPair}
 use Rattle.model.specs.EdgeText.{Ends}
+use Rattle.theory.proofs.text.EdgeTextFaults.{turned}
 use Rattle.theory.proofs.text.EdgeTextStep.{joinedBy}
 use Rattle.lines.specs.Line.{readingOf, start, ReadingFits, LineRead}
 use Rattle.lines.specs.declared.Said.{Said}
 use Rattle.lines.specs.declared.Outcome.{Outcome}
 use Rattle.lines.specs.declared.Outcome.the-variants.{Bad, Next}
-use Rattle.lines.proofs.Cells.{cell, turned}
+use Rattle.lines.proofs.Cells.{cell}
 use Rattle.lines.proofs.Lines.{past-fault, problem-tests}
 
 -- the same promise of an equal step, and of an equal answer

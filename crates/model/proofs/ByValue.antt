@@ -33,6 +33,10 @@ pinned x =
       text = refl;
       text-ended = refl;
       text-refused = refl;
+      both-directions = refl;
+      three-times = refl;
+      edges-stated = refl;
+      loop = refl;
     }
 
 -- what holds of both kinds, and of the three notions

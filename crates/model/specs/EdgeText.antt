@@ -181,6 +181,19 @@ pub record FirstFaultyLine (room : ℕ) (text : List ℕ) (k i : ℕ) (said : Li
   pub faulty : k ≢ 0
   pub line : i ≡ suc (length front)
 
+-- 39 by itself: every line is without fault, a p line is among them, and its M differs from the number of e lines (document 02, C-11: "39 compares
+-- lines, not edges"); i is the line count plus 1
+pub record Miscounted (room : ℕ) (text : List ℕ) (i : ℕ) : Type 0 where
+  pub lines : List (List ℕ)
+  pub said : List Line
+  pub cut : Lines text lines
+  pub faultless : Faultless room [] lines said
+  pub vertices : ℕ
+  pub stated : ℕ
+  pub passed : List·Memᴰ (problem vertices stated) said
+  pub differs : stated ≢ edges said
+  pub line : i ≡ suc (length lines)
+
 -- "The table is unchanged if no p line passed, else its first N × N bytes, with that line's N, are 0."
 pub record Cleared (said : List Line) (before after : List ℕ) : Type 0 where
   pub unchanged : ((n : ℕ) → Passed said n → ⊥) → after ≡ before

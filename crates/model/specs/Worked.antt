@@ -1,7 +1,7 @@
 -- Document 01, "Graphs worked through": K1 to K10 as one statement, and beside it what they leave open and is pinned by value too. Both are
 -- proved in `Rattle.model.proofs.ByValue`.
 -- Assumes nothing.
-use Prim.Native.Nat.{ℕ, _≤_}
+use Prim.Native.Nat.{ℕ, _+_, _≤_}
 use mathlib.Core.Path.{_≡_}
 use mathlib.Core.Bool.{true, false}
 use mathlib.Core.List.{List, [], _∷_, _++_}
@@ -86,6 +86,21 @@ clawText =
     101 ∷ 32 ∷ 49 ∷ 32 ∷ 51 ∷ 10 ∷
     101 ∷ 32 ∷ 49 ∷ 32 ∷ 52 ∷ []
 
+-- Document 02, C-11: a text that begins with the line `p edge 3 M`, M below 10
+abbrev pub onThree : ℕ → List ℕ → List ℕ
+onThree m rest = 112 ∷ 32 ∷ 101 ∷ 100 ∷ 103 ∷ 101 ∷ 32 ∷ 51 ∷ 32 ∷ (48 + m) ∷ 10 ∷ rest
+
+-- the line `e U V`, U and V below 10, before other lines
+abbrev pub eText : ℕ → ℕ → List ℕ → List ℕ
+eText u v rest = 101 ∷ 32 ∷ (48 + u) ∷ 32 ∷ (48 + v) ∷ 10 ∷ rest
+
+-- three vertices, of which the first two are joined
+abbrev pub oneEdge : List ℕ
+oneEdge =
+    0 ∷ 1 ∷ 0 ∷
+    1 ∷ 0 ∷ 0 ∷
+    0 ∷ 0 ∷ 0 ∷ []
+
 -- a page call on the claw, max, kind 0, c 2, with a work slice of exactly 8 × 4 entries
 abbrev pub onClaw : ℕ → Position → List ℕ → PageReply
 onClaw budget p out = pageCall 4 clawTable (settings 2 0 2) budget p out 32
@@ -141,3 +156,15 @@ pub record Pinned (x : ℕ) : Type 0 where
   pub text-refused :
       readText (clawText ++ 10 ∷ 112 ∷ 32 ∷ []) (replicate 16 x ++ x ∷ [])
       ≡ record { refused = 34; vertices = 0; stated = 0; line = 5; slice = replicate 16 0 ++ x ∷ [] }
+  -- Document 02, C-11: "A repeated pair now counts once in the table", in either direction, and "M is still the count of e lines"
+  pub both-directions :
+      readText (onThree 2 (eText 1 2 (eText 2 1 []))) (replicate 9 x) ≡ record { refused = 0; vertices = 3; stated = 2; line = 0; slice = oneEdge }
+  pub three-times :
+      readText (onThree 3 (eText 1 2 (eText 2 1 (eText 1 2 [])))) (replicate 9 x) ≡ record { refused = 0; vertices = 3; stated = 3; line = 0; slice = oneEdge }
+  -- "39 compares lines, not edges": `p edge 3 1`, `e 1 2`, `e 2 1`
+  pub edges-stated :
+      readText (onThree 1 (eText 1 2 (eText 2 1 []))) (replicate 9 x)
+      ≡ record { refused = 39; vertices = 0; stated = 0; line = 4; slice = replicate 9 0 }
+  -- and a vertex with itself stays 37
+  pub loop :
+      readText (onThree 1 (eText 1 1 [])) (replicate 9 x) ≡ record { refused = 37; vertices = 0; stated = 0; line = 2; slice = replicate 9 0 }

@@ -6,6 +6,7 @@ pub mod EdgeTextFaults
 pub mod EdgeTextFields
 pub mod EdgeTextGraph
 pub mod EdgeTextLines
+pub mod EdgeTextRepeats
 pub mod EdgeTextRun
 pub mod EdgeTextSpelling
 pub mod EdgeTextStep

@@ -11,11 +11,11 @@ use borrow.Author.Needs.{needs}
 use Rattle.model.specs.Text.{next, fault, eLine}
 use Rattle.model.specs.EdgeText.{Ends, OutOfRange}
 use Rattle.theory.proofs.basics.Tests.{fails}
-use Rattle.theory.proofs.text.EdgeTextFaults.{not-out-of-range}
+use Rattle.theory.proofs.text.EdgeTextFaults.{not-out-of-range, turned}
 use Rattle.theory.proofs.text.EdgeTextStep.{joinedBy, out-test}
 use Rattle.lines.specs.Line.{readingOf}
 use Rattle.lines.proofs.Lines.{at-fault, past-fault, edge-tests}
-use Rattle.lines.proofs.Cells.{area-fits, cell, turned}
+use Rattle.lines.proofs.Cells.{area-fits, cell}
 use Rattle.lines.proofs.Steps.{faulty, joined}
 use Rattle.lines.proofs.edge.Statement.{statement}
 use Rattle.lines.proofs.edge.Tie as tie

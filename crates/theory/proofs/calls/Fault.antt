@@ -1,13 +1,15 @@
 -- A list of faults: the number of the first that holds is determined, and it is 0 exactly where no fault holds.
 -- Assumes nothing.
 use Prim.Native.Nat.{ℕ, zero, suc, _<_}
-use mathlib.Core.Path.{_≡_, refl, sym, _∙_, subst⁻¹}
-use mathlib.Core.Bool.{Bool, true, false, false≢true}
-use mathlib.Core.Logic.{_↔_, _⊎_, inl, inr}
+use mathlib.Core.Path.{_≡_, refl, sym, ap, _∙_, subst⁻¹}
+use mathlib.Core.Bool.{Bool, true, false, _||_, false≢true}
+use mathlib.Core.Logic.{_↔_, _≢_, _⊎_, inl, inr}
 use mathlib.Core.List.{List, [], _∷_, _++_}
 use native.Mathlib.Omega.{arith}
 use native.Mathlib.Nat.{not-suc-le-zero}
 use lib.ListN.{length, getD}
+use lib.Dec.{eqb}
+use borrow.Author.Tests.{eq-eqb}
 use Rattle.model.specs.Fault.{Fault, numbered, NonZero, FirstFault, NoFault}
 use Rattle.model.specs.Calls.{refuse, orElse, over}
 use Rattle.theory.proofs.basics.Tests.{Test, test-map, test-or, test-lt}
@@ -38,6 +40,22 @@ first-none fs k r a = (λ z. there fs k r a z, λ n. none-first fs k n a)
     there [] k r a z = tt
     there (f ∷ fs) k r (inl a) z = absurd (r .0 (sym (a .1) ∙ z))
     there (f ∷ fs) k r (inr a) z = (a .0, there fs k (r .1) (a .1) z)
+
+-- whether some fault of the list has this number
+abbrev hasNumber : ℕ → List Fault → Bool
+hasNumber k [] = false
+hasNumber k (f ∷ fs) = eqb k (f .number) || hasNumber k fs
+
+-- a number other than 0 that no fault has is never the first
+pub never-first : (fs : List Fault) (k : ℕ) → k ≢ 0 → hasNumber k fs ≡ false → FirstFault fs k → ⊥
+unfolding FirstFault
+never-first [] k h e a = h a
+never-first (f ∷ fs) k h e (inl a) = false≢true (sym e ∙ ap (λ (b : Bool). b || hasNumber k fs) (eq-eqb k (f .number) (a .1)))
+never-first (f ∷ fs) k h e (inr a) = never-first fs k h (or-false (eqb k (f .number)) (hasNumber k fs) e) (a .1)
+  where
+    or-false : (a b : Bool) → (a || b) ≡ false → b ≡ false
+    or-false true b e = absurd (false≢true (sym e))
+    or-false false b e = e
 
 -- two lists of faults, one after the other: the later ones count where none of the earlier holds
 pub first-else : (fs gs : List Fault) (j k : ℕ) → NonZero fs → FirstFault fs j → (NoFault fs → FirstFault gs k) → FirstFault (fs ++ gs) (orElse j k)

@@ -3,11 +3,11 @@
 use Prim.Native.Nat.{ℕ, _*_, _≤_, _<_}
 use mathlib.Core.Path.{_≡_, sym, ap, _∙_, subst, subst₂}
 use mathlib.Core.Logic.{_≢_, inl, inr}
-use mathlib.Core.List.{List}
+use mathlib.Core.List.{List, List·Memᴰ}
 use native.Mathlib.Omega.{arith}
 use lib.ListN.{getD, drop}
 use Rattle.model.specs.Fault.{FirstFault, NoFault}
-use Rattle.model.specs.EdgeText.{Letter, Headed, Line, comment, problem, edge, Spells, Ends, Passed, OutOfRange, lineFaults}
+use Rattle.model.specs.EdgeText.{Letter, Headed, Line, comment, problem, edge, Spells, HasPair, Ends, Passed, OutOfRange, lineFaults}
 use Rattle.theory.proofs.calls.Fault.{none-of}
 use Rattle.theory.proofs.text.EdgeTextSpelling.{letter-first, spells-letter, says-one}
 use Rattle.theory.proofs.text.EdgeTextDrawn.{problem-first, edge-first, edge-second}
@@ -29,6 +29,15 @@ not-out-of-range n u v within differ =
     let v-from : v < 1 → ⊥ = λ q. within (inr (inr (inl q))) in
     let v-to : n < v → ⊥ = λ q. within (inr (inr (inr q))) in
     record { u-from = omega arith; u-to = omega arith; v-from = omega arith; v-to = omega arith; differ = differ }
+
+-- a pair the other way round is in range too
+pub turned : {n u v : ℕ} → Ends n u v → Ends n v u
+turned h = record { u-from = h .v-from; u-to = h .v-to; v-from = h .u-from; v-to = h .u-to; differ = λ e. h .differ (sym e) }
+
+-- so where every e line's pair is in range, that holds in either direction
+pub pair-ends : (n : ℕ) (xs : List Line) → ((u v : ℕ) → List·Memᴰ (edge u v) xs → Ends n u v) → (u v : ℕ) → HasPair xs u v → Ends n u v
+pair-ends n xs ends u v (inl m) = ends u v m
+pair-ends n xs ends u v (inr m) = turned (ends v u m)
 
 module _ (room : ℕ) (xs : List Line) (l : List ℕ) where
   -- ---- which faults a line's letter leaves

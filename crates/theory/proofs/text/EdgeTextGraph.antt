@@ -20,14 +20,11 @@ use Rattle.theory.proofs.basics.Tests.{Test, test-and, test-lt, test-se
 use Rattle.theory.proofs.graph.Table.{joined-at}
 use Rattle.theory.proofs.calls.Fault.{none-of}
 use Rattle.theory.proofs.calls.TableFaults.{table-accepted-iff}
+use Rattle.theory.proofs.text.EdgeTextFaults.{pair-ends}
 use Rattle.theory.proofs.text.EdgeTextTable.{Cell, cell-of, joins-or-not, joins-swap, byte-test}
 use Rattle.theory.proofs.text.EdgeText.{accepted-reply, accepted-iff}
 
 module _ (n : ℕ) (xs : List Line) (t : List ℕ) (a : Table n xs t) (ends : (u v : ℕ) → List·Memᴰ (edge u v) xs → Ends n u v) where
-  pair-ends : (u v : ℕ) → HasPair xs u v → (u ≤ n) × (v ≤ n) × (u ≡ v → ⊥)
-  pair-ends u v (inl m) = let e = ends u v m in (e .u-to, e .v-to, e .differ)
-  pair-ends u v (inr m) = let e = ends v u m in (e .v-to, e .u-to, λ q. e .differ (sym q))
-
   -- two vertices are joined exactly where some e line has their pair
   pub joined-test : (u v : ℕ) → Test (byTable n t .joined u v) (HasPair xs (suc u) (suc v))
   unfolding byteJoined amongVertices
@@ -40,8 +37,8 @@ module _ (n : ℕ) (xs : List Line) (t : List ℕ) (a : Table n xs t) (ends : (u
 
       back : HasPair xs (suc u) (suc v) → byTable n t .joined u v ≡ true
       back j =
-          let h = pair-ends (suc u) (suc v) j in
-          joined-at n t u (h .0) v (h .1) ∙ byte-test n xs t a u v (h .0) (h .1) .1 j
+          let h = pair-ends n xs ends (suc u) (suc v) j in
+          joined-at n t u (h .u-to) v (h .v-to) ∙ byte-test n xs t a u v (h .u-to) (h .v-to) .1 j
 
   -- a byte is 0 or 1, that of a vertex with itself is 0, and the bytes of a pair are equal
   byte-small : (i : ℕ) → i < length t → (getD t i 0 ≡ 0) ⊎ (getD t i 0 ≡ 1)
@@ -57,7 +54,7 @@ module _ (n : ℕ) (xs : List Line) (t : List ℕ) (a : Table n xs t) (ends : (u
           (go (c .row) (c .column) (c .row-below) (c .column-below) (joins-or-not xs (suc (c .row)) (suc (c .column))))
 
   no-loop : (u : ℕ) → u < n → getD t (u * n + u) 0 ≡ 1 → ⊥
-  no-loop u h e = pair-ends (suc u) (suc u) (byte-test n xs t a u u h h .0 (eq-eqb (getD t (u * n + u) 0) 1 e)) .2 refl
+  no-loop u h e = pair-ends n xs ends (suc u) (suc u) (byte-test n xs t a u u h h .0 (eq-eqb (getD t (u * n + u) 0) 1 e)) .differ refl
 
   mirrored : (u v : ℕ) → u < n → v < n → getD t (u * n + v) 0 ≡ getD t (v * n + u) 0
   mirrored u v hu hv = go (joins-or-not xs (suc u) (suc v))

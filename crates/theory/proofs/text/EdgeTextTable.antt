@@ -1,7 +1,7 @@
 -- The table of a text: there is one for given lines, and an e line extends it by its pair.
 -- Assumes nothing.
 use Prim.Native.Nat.{ℕ, zero, suc, _+_, _-_, _*_, _<_}
-use mathlib.Core.Path.{_≡_, refl, sym, ap, ap₂, _∙_, subst}
+use mathlib.Core.Path.{_≡_, refl, sym, ap, ap₂, _∙_, subst, subst₂}
 use mathlib.Core.Logic.{_⊎_, inl, inr, ⊎-elim}
 use mathlib.Core.Bool.{Bool, true, false}
 use mathlib.Core.List.{List, [], _∷_, _++_, List·Memᴰ, List·Memᴰ·head, List·Memᴰ·tail, List·Memᴰ·not-nil, List·Memᴰ·cases-cons, List·Memᴰ·append-cases, List·Memᴰ·eq-of-singleton, Memᴰ·append-left, Memᴰ·append-right}
@@ -102,6 +102,15 @@ pub joins-last : (xs : List Line) (x : Line) (u v : ℕ) → HasPair (xs ++ (x �
 joins-last xs x u v (inl m) = ⊎-elim (λ a. inl (inl a)) (λ a. inr (inl (List·Memᴰ·eq-of-singleton a))) (List·Memᴰ·append-cases xs m)
 joins-last xs x u v (inr m) = ⊎-elim (λ a. inl (inr a)) (λ a. inr (inr (List·Memᴰ·eq-of-singleton a))) (List·Memᴰ·append-cases xs m)
 
+-- one more line of a pair that stood before joins no other
+pub joins-again : (xs : List Line) (u v : ℕ) → HasPair xs u v → (c d : ℕ) → HasPair (xs ++ (edge u v ∷ [])) c d → HasPair xs c d
+joins-again xs u v h c d j = go (joins-last xs (edge u v) c d j)
+  where
+    go : HasPair xs c d ⊎ (edge c d ≡ edge u v) ⊎ (edge d c ≡ edge u v) → HasPair xs c d
+    go (inl k) = k
+    go (inr (inl e)) = subst₂ (HasPair xs) (sym (edge-first c d u v e)) (sym (edge-second c d u v e)) h
+    go (inr (inr e)) = joins-swap xs d c (subst₂ (HasPair xs) (sym (edge-first d c u v e)) (sym (edge-second d c u v e)) h)
+
 -- ---- the table of the lines
 
 module _ (n : ℕ) where
@@ -201,3 +210,13 @@ module _ (n : ℕ) where
         at i c =
             subst (λ (k : ℕ). getD t k 0 ≡ getD s k 0) (sym (c .index))
             (go (c .row) (c .column) (c .row-below) (c .column-below) (joins-or-not xs (suc (c .row)) (suc (c .column))))
+
+  -- a pair that stood before leaves it as it is
+  pub joined-again : (xs : List Line) (t : List ℕ) → Table n xs t → (u v : ℕ) → u < n → v < n → HasPair xs (suc u) (suc v) → joinPair n u v t ≡ t
+  joined-again xs t a u v hu hv h =
+      table-one (xs ++ (edge (suc u) (suc v) ∷ [])) (joinPair n u v t) (table-joins xs t a u v hu hv) t
+      (record {
+        size = a .size;
+        joined = λ c d hc hd j. a .joined c d hc hd (joins-again xs (suc u) (suc v) h (suc c) (suc d) j);
+        apart = λ c d hc hd f. a .apart c d hc hd (λ j. f (joins-more xs (edge (suc u) (suc v) ∷ []) (suc c) (suc d) j));
+      })

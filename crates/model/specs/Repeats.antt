@@ -1,0 +1,45 @@
+-- Document 02, C-11: texts that differ only in e lines whose pair is given again, in this direction or the other, and in M, which counts the e
+-- lines of each. `Rattle.theory.proofs.text.EdgeTextRepeats` shows that they are texts of one graph.
+-- Assumes nothing.
+use Prim.Native.Nat.{ℕ}
+use mathlib.Core.Path.{_≡_}
+use mathlib.Core.List.{List, [], _∷_, List·Memᴰ}
+use Rattle.model.specs.EdgeText.{Lines, Line, comment, problem, edge, SpellAll, edges, HasPair}
+
+-- what a line says, but for M
+abbrev pub butM : Line → Line
+butM comment = comment
+butM (problem n m) = problem n 0
+butM (edge u v) = edge u v
+
+-- no line states N and M
+abbrev pub NoProblem : List Line → Type 0
+NoProblem xs = (n m : ℕ) → List·Memᴰ (problem n m) xs → ⊥
+
+-- ys are the lines xs, with M aside, and between them e lines whose pair the lines `all` have, in either direction; none of these stands before the
+-- p line
+pub data PutIn (all : List Line) : List Line → List Line → Type 0 where
+  ended : PutIn all [] []
+  kept : {x y : Line} {xs ys : List Line} → butM x ≡ butM y → PutIn all xs ys → PutIn all (x ∷ xs) (y ∷ ys)
+  repeated : {u v : ℕ} {xs ys : List Line} → HasPair all u v → NoProblem xs → PutIn all xs ys → PutIn all xs (edge u v ∷ ys)
+
+-- both are the same lines, with repeated e lines put in
+pub record OnlyRepeats (xs ys : List Line) : Type 0 where
+  pub shared : List Line
+  pub first : PutIn shared shared xs
+  pub second : PutIn shared shared ys
+
+-- a text's lines say this, and every M that they state is the count of their e lines
+pub record Counted (text : List ℕ) (said : List Line) : Type 0 where
+  pub lines : List (List ℕ)
+  pub cut : Lines text lines
+  pub spelled : SpellAll lines said
+  pub stated : (n m : ℕ) → List·Memᴰ (problem n m) said → m ≡ edges said
+
+-- two texts that differ only in repeated e lines, each with its own right M
+pub record DifferInRepeats (text other : List ℕ) : Type 0 where
+  pub said : List Line
+  pub other-said : List Line
+  pub text-counted : Counted text said
+  pub other-counted : Counted other other-said
+  pub only : OnlyRepeats said other-said
