@@ -4,7 +4,7 @@ use Prim.Native.Nat.{ℕ, _+_, _*_, _-_, _≤_, _<_}
 use mathlib.Core.Path.{_≡_, ap}
 use mathlib.Core.Logic.{inl, inr}
 use native.Mathlib.Omega.{arith}
-use lib.ListN.{length-set}
+use lib.ListN.{length, length-set}
 use lib.Dec.{eqb}
 use borrow.Author.Tests.{eq-eqb, ne-eqb}
 use borrow.Author.Needs.{needs}
@@ -43,12 +43,14 @@ past-37 : (c : tie.Else5) →
     next (joinedBy r (g .u) (g .v)) ≡ eLine r (g .u) (g .v)
 past-37 c = past-fault _ (past-36 (c .before)) (ne-eqb _ _ (ends c .differ))
 
--- so both cells are within the table, which is small
+-- so both cells are within the table, which is small and for which the slice has room
 inside : (c : tie.Else5) →
     let g = c .before .before .before .before .before .args in
     let n = g .s .vertices in
-    ((g .u - 1) * n + (g .v - 1) < n * n) × ((g .v - 1) * n + (g .u - 1) < n * n) × (n * n ≤ 1024 * 1024)
-inside c = (cell (ends c), cell (turned (ends c)), area-fits _ (c .before .before .before .before .before .pre .0 .small))
+    ((g .u - 1) * n + (g .v - 1) < n * n) × ((g .v - 1) * n + (g .u - 1) < n * n) × (n * n ≤ 1024 * 1024) × (n * n ≤ length (g .table .now))
+inside c =
+    let fit = c .before .before .before .before .before .pre .0 in
+    (cell (ends c), cell (turned (ends c)), area-fits _ (fit .small), fit .area)
 
 returns : tie.Need-returns
 returns c =
@@ -89,10 +91,10 @@ add-back : tie.Need-add-back
 add-back c = omega (arith, inside c)
 
 slice-write-table : tie.Need-slice-write-table
-slice-write-table c = omega (arith, inside c, (c .before .before .before .before .before .pre .0) .area)
+slice-write-table c = omega (arith, inside c)
 
 slice-write-table-2 : tie.Need-slice-write-table-2
-slice-write-table-2 c = simp length-set (omega (arith, inside c, (c .before .before .before .before .before .pre .0) .area))
+slice-write-table-2 c = simp length-set (omega (arith, inside c))
 
 add-t11 : tie.Need-add-t11
 add-t11 c = omega (arith, c .before .before .before .before .before .before .pre .1)

@@ -216,6 +216,15 @@ module _ (xs ys : List Line) (r : OnlyRepeats xs ys) where
   only-begins : Begins xs → Begins ys
   only-begins b = begins-kept (r .shared) (r .second) (begins-stood (r .shared) (r .first) b)
 
+-- as do one edge's lines in one direction and in both
+pub both-directions : OnlyRepeats (problem 3 1 ∷ edge 1 2 ∷ []) (problem 3 2 ∷ edge 1 2 ∷ edge 2 1 ∷ [])
+both-directions =
+    record {
+      shared = problem 3 1 ∷ edge 1 2 ∷ [];
+      first = kept refl (kept refl ended);
+      second = kept refl (kept refl (repeated (inr (List·Memᴰ·tail (List·Memᴰ·head refl))) (λ n m i. List·Memᴰ·not-nil i) ended));
+    }
+
 -- what lines spell
 spelled-one : (ls : List (List ℕ)) (xs ys : List Line) → SpellAll ls xs → SpellAll ls ys → xs ≡ ys
 spelled-one [] [] [] s t = refl
