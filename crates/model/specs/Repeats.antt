@@ -16,11 +16,12 @@ butM (edge u v) = edge u v
 abbrev pub NoProblem : List Line → Type 0
 NoProblem xs = (n m : ℕ) → List·Memᴰ (problem n m) xs → ⊥
 
--- ys are the lines xs, with M aside, and between them e lines whose pair the lines `all` have, in either direction; none of these stands before the
--- p line
+-- ys are the lines xs, M aside, with e lines put in whose pair the lines `all` have, in either direction
 pub data PutIn (all : List Line) : List Line → List Line → Type 0 where
   ended : PutIn all [] []
+  -- both have this line, but for M
   kept : {x y : Line} {xs ys : List Line} → butM x ≡ butM y → PutIn all xs ys → PutIn all (x ∷ xs) (y ∷ ys)
+  -- an e line put in, after the p line: none is still to come
   repeated : {u v : ℕ} {xs ys : List Line} → HasPair all u v → NoProblem xs → PutIn all xs ys → PutIn all xs (edge u v ∷ ys)
 
 -- both are the same lines, with repeated e lines put in
