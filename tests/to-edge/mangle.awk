@@ -1,5 +1,6 @@
-# Writes `graphs` small random graphs into `folder`, each twice: as NUMBER.clean in the form that the reader accepts, and as NUMBER.mangled with what
-# tools/to-edge has to undo. The numbers are those of a small generator of its own, so that they are the same under every awk.
+# Writes `graphs` small random graphs into `folder`, each twice: as NUMBER.clean with each pair once, in the form that the reader accepts, and as
+# NUMBER.mangled with repeated pairs, which stay, and with what tools/to-edge has to undo. NUMBER.lines has how many e lines stay. The numbers are those
+# of a small generator of its own, so that they are the same under every awk.
 
 function below(bound) {
     state = state * 16807 % 2147483647
@@ -31,6 +32,7 @@ function put(line) {
 
 function put_edge(u, v) {
     stood++
+    if (u != v) stay++
     if (below(2)) put("e" gap() digits(u) gap() digits(v))
     else put("e" gap() digits(v) gap() digits(u))
 }
@@ -61,19 +63,24 @@ BEGIN {
         mangled = below(4) == 0 ? "\357\273\277" : ""
         started = 0
         stood = 0
+        stay = 0
         if (notes) put("c a title")
         word = below(3)
-        put("p" gap() (word == 0 ? "edge" : word == 1 ? "col" : "edges") gap() digits(n) gap() (below(2) ? digits(edges) : "@"))
+        put("p" gap() (word == 0 ? "edge" : word == 1 ? "col" : "edges") gap() digits(n) gap() "@")
         for (i = 1; i <= edges; i++) {
             put_edge(from[i], to[i])
             again = 1 + below(i)
             if (repeats && often()) put_edge(from[again], to[again])
             if (loops && often()) put_edge(to[i], to[i])
         }
-        # M counts the edges, or the e lines as they stand.
-        sub(/@/, digits(stood), mangled)
+        # M counts the edges, the e lines as they stand, or those that stay.
+        counted = below(3)
+        sub(/@/, digits(counted == 0 ? edges : counted == 1 ? stood : stay), mangled)
         file = folder "/" number ".mangled"
         printf "%s%s", mangled, (below(4) ? ending : "") > file
+        close(file)
+        file = folder "/" number ".lines"
+        print stay > file
         close(file)
     }
 }
