@@ -129,7 +129,8 @@ extern "C" {
 #define ISOLATED_REFUSED_POSITION_DEAD 23
 
 /* Refusals of isolated_read_text(): of the first faulty line, and in that line in the order
-   31, 33, 34, 32, 35, 40, 36, 37, 38; at the end of the text 33, then 39. */
+   31, 33, 34, 32, 35, 40, 36, 37; at the end of the text 33, then 39. No call returns 38 any more, since a pair may
+   be repeated; its name is kept, so that programs that have it still compile. */
 #define ISOLATED_REFUSED_LINE_START 31
 #define ISOLATED_REFUSED_FORM 32
 #define ISOLATED_REFUSED_NO_P_LINE 33
@@ -177,7 +178,8 @@ static inline const char *isolated_refusal_text(uint32_t refusal) {
     case ISOLATED_REFUSED_TEXT_VERTICES: return "N is over 1,024";
     case ISOLATED_REFUSED_RANGE: return "U or V is 0 or over N";
     case ISOLATED_REFUSED_SAME_VERTEX: return "U equals V";
-    case ISOLATED_REFUSED_REPEATED_PAIR: return "the pair stood before, in this direction or the other";
+    case ISOLATED_REFUSED_REPEATED_PAIR:
+        return "the pair stood before, in this direction or the other (no call returns this any more)";
     case ISOLATED_REFUSED_EDGE_COUNT: return "M differs from the number of e lines";
     case ISOLATED_REFUSED_TABLE_SHORT: return "the table has fewer than N * N bytes";
     case ISOLATED_REFUSED_TEXT_LENGTH: return "the text is over 65,536 bytes";
@@ -203,9 +205,9 @@ typedef struct isolated_set_answer {
 
 /* What isolated_read_text() returns. Where refusal is not 0, vertices and edges are 0. */
 typedef struct isolated_text_answer {
-    uint32_t refusal;  /* 0, or one of 31 to 40 */
+    uint32_t refusal;  /* 0, or one of 31 to 37, 39 and 40 */
     uint32_t vertices; /* N */
-    uint32_t edges;    /* M */
+    uint32_t edges;    /* M, the number of e lines: more than the graph has edges where a pair is repeated */
     size_t line;       /* 0, or the faulty line, counted from 1; at the end of the text the line count plus 1 */
 } isolated_text_answer;
 
@@ -254,8 +256,13 @@ isolated_set_answer isolated_set_query(const uint8_t *table, size_t table_length
  * isolated_read_text(): reads a graph in the DIMACS edge layout.
  *
  * Lines end in byte 10; the last may lack it. A line is `c` alone, `c` with a space and any bytes, `p edge N M`,
- * or `e U V` with U and V from 1 to N for vertices U - 1 and V - 1. One p line stands before all e lines, and M is
- * the number of e lines. Fields are parted by one space. A number is 1 to 6 digits, without leading zero except 0.
+ * or `e U V` with U and V from 1 to N for vertices U - 1 and V - 1, which differ. One p line stands before all e
+ * lines, and M is the number of e lines. Fields are parted by one space. A number is 1 to 6 digits, without leading
+ * zero except 0.
+ *
+ * A pair may be given more than once, in either direction: it is one edge, and M counts the lines. So `edges` of the
+ * answer, which is M, is not the number of edges where a pair is repeated. That number is half the sum of the
+ * degrees: half the ones among the first N * N bytes of the table.
  *
  *   text, text_length    the text, of any length; read only.
  *   table, table_length  at least N * N bytes with any contents. Accepted: the first N * N bytes hold the graph's

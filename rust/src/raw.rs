@@ -41,7 +41,8 @@ pub struct TextAnswer {
     pub refusal: u32,
     /// The N of the p line.
     pub vertices: u32,
-    /// The M of the p line.
+    /// The M of the p line, which is the number of e lines: more than the graph has edges where a pair is repeated. See
+    /// [`crate::TextGraph::edges`].
     pub edges: u32,
     /// 0, or the faulty line, counted from 1; at the end of the text the line count plus 1.
     pub line: usize,

@@ -61,7 +61,8 @@ refusals! {
     TextVertices = 35, "N is over 1,024";
     Range = 36, "U or V is 0 or over N";
     SameVertex = 37, "U equals V";
-    RepeatedPair = 38, "the pair stood before, in this direction or the other";
+    /// A repeated pair is read, as one edge. The name is kept, so that programs that have it still compile.
+    RepeatedPair = 38, "the pair stood before, in this direction or the other (no call returns this any more)";
     EdgeCount = 39, "M differs from the number of e lines";
     TableShort = 40, "the table has fewer than N * N bytes";
 }
@@ -78,11 +79,11 @@ impl Refusal {
         self as u32
     }
 
-    /// The refusal of a number, `None` where no call tells this number.
+    /// The refusal of a number, `None` where no refusal has this number.
     ///
     /// ```
     /// use isolated::Refusal;
-    /// assert_eq!(Refusal::of_number(38), Some(Refusal::RepeatedPair));
+    /// assert_eq!(Refusal::of_number(39), Some(Refusal::EdgeCount));
     /// assert_eq!(Refusal::of_number(0), None);
     /// ```
     #[must_use]

@@ -10,6 +10,20 @@ pub struct TextGraph {
     /// The N of the p line.
     pub vertices: usize,
     /// The M of the p line, which is the number of e lines.
+    ///
+    /// Where a pair is repeated that is more than the graph has edges. Their number is half the sum of the degrees, so
+    /// half the ones of the table:
+    ///
+    /// ```
+    /// # fn main() -> Result<(), isolated::TextRefusal> {
+    /// let mut table = [0; 9];
+    /// let graph = isolated::read_text(b"p edge 3 3\ne 1 2\ne 2 1\ne 2 3\n", &mut table)?;
+    /// let n = graph.vertices;
+    /// let edges = table[..n * n].iter().filter(|&&byte| byte == 1).count() / 2;
+    /// assert_eq!((graph.edges, edges), (3, 2));
+    /// # Ok(())
+    /// # }
+    /// ```
     pub edges: usize,
 }
 
@@ -30,7 +44,8 @@ impl fmt::Display for TextRefusal {
 
 impl std::error::Error for TextRefusal {}
 
-/// Reads a graph into the first N × N bytes of `table`; the rest is untouched.
+/// Reads a graph into the first N × N bytes of `table`; the rest is untouched. A pair may be given more than once, in
+/// either direction: it is one edge.
 ///
 /// ```
 /// use isolated::{read_text, Refusal, TextRefusal};
@@ -50,8 +65,9 @@ impl std::error::Error for TextRefusal {}
 ///
 /// # Errors
 ///
-/// One of the refusals 31 to 40, [`Refusal::LineStart`] to [`Refusal::TableShort`], and its line. Of a text that is
-/// refused before a p line has passed, nothing is written; after it the first N × N bytes, with that line's N, are 0.
+/// One of the refusals 31 to 40, [`Refusal::LineStart`] to [`Refusal::TableShort`], and its line; never 38,
+/// [`Refusal::RepeatedPair`]. Of a text that is refused before a p line has passed, nothing is written; after it the
+/// first N × N bytes, with that line's N, are 0.
 ///
 /// # Panics
 ///

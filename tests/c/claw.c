@@ -44,7 +44,7 @@ int main(void) {
     uint8_t table[VERTICES * VERTICES];
     isolated_text_answer read =
         isolated_read_text((const uint8_t *)text, strlen(text), table, sizeof table);
-    printf("read %u: %u vertices, %u edges, line %zu\n", read.refusal, read.vertices, read.edges, read.line);
+    printf("read %u: %u vertices, %u e lines, line %zu\n", read.refusal, read.vertices, read.edges, read.line);
     if (read.refusal != ISOLATED_REFUSED_NOT) return 1;
 
     list(table, read.vertices, ISOLATED_MAX, ISOLATED_MAXIMAL_ISOLATED, 2);

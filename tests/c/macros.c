@@ -1,7 +1,8 @@
 /*
  * Provokes what each macro of the header names and compares it with the number that document 01 has for it, which is
- * written out here once more: a number that is changed in the header alone is found. The one argument is the number
- * that the program `isolated` told of a text that is too long. Ends with status 1 at the first difference.
+ * written out here once more: a number that is changed in the header alone is found. One refusal can't be provoked any
+ * more; its number alone is compared. The one argument is the number that the program `isolated` told of a text that
+ * is too long. Ends with status 1 at the first difference.
  */
 #include "isolated.h"
 
@@ -122,9 +123,21 @@ static void refusals_of_the_text(void) {
     SAME(read_text("p edge 1025 0\n", sizeof table).refusal, ISOLATED_REFUSED_TEXT_VERTICES, 35);
     SAME(read_text("p edge 2 1\ne 1 3\n", 4).refusal, ISOLATED_REFUSED_RANGE, 36);
     SAME(read_text("p edge 2 1\ne 1 1\n", 4).refusal, ISOLATED_REFUSED_SAME_VERTEX, 37);
-    SAME(read_text("p edge 2 2\ne 1 2\ne 2 1\n", 4).refusal, ISOLATED_REFUSED_REPEATED_PAIR, 38);
     SAME(read_text("p edge 2 2\ne 1 2\n", 4).refusal, ISOLATED_REFUSED_EDGE_COUNT, 39);
     SAME(read_text("p edge 2 0\n", 3).refusal, ISOLATED_REFUSED_TABLE_SHORT, 40);
+}
+
+/* No text gets 38 any more. Its name keeps its number, and the text that got it is read: two e lines, one edge. */
+static void repeated_pair(void) {
+    static const uint8_t one_edge[] = {0, 1, 1, 0};
+    isolated_text_answer answer;
+    IS(ISOLATED_REFUSED_REPEATED_PAIR, 38);
+    memset(table, 9, sizeof one_edge);
+    answer = read_text("p edge 2 2\ne 1 2\ne 2 1\n", sizeof one_edge);
+    SAME(answer.refusal, ISOLATED_REFUSED_NOT, 0);
+    hold("N is 2 and M is 2", answer.vertices == 2 && answer.edges == 2 && answer.line == 0);
+    hold("the table has one edge", memcmp(table, one_edge, sizeof one_edge) == 0);
+    SAME(read_text("p edge 2 1\ne 1 2\ne 2 1\n", 4).refusal, ISOLATED_REFUSED_EDGE_COUNT, 39);
 }
 
 /* Each bound is accepted and one past it is refused. */
@@ -214,6 +227,7 @@ int main(int count, char **words) {
     refusals_of_the_input();
     refusals_of_the_position();
     refusals_of_the_text();
+    repeated_pair();
     bounds();
     notions_and_kinds();
     stops_and_positions();
