@@ -66,11 +66,7 @@ fn fault(line: &[u8], before: &[&[u8]], table: usize) -> Option<u32> {
         if !good.contains(&u) || !good.contains(&v) {
             return Some(36);
         }
-        if u == v {
-            return Some(37);
-        }
-        let pairs = before.iter().filter_map(|line| e_line(line));
-        return pairs.into_iter().any(|pair| pair == (u, v) || pair == (v, u)).then_some(38);
+        return (u == v).then_some(37);
     }
     if seen.is_some() {
         return Some(34);

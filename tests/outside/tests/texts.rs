@@ -17,18 +17,51 @@ fn check(text: &[u8], table: &[u8]) -> TextAnswer {
     found.answer
 }
 
-/// A graph's text with comments at any place, edges in any order and direction.
-fn sound_text(random: &mut Random, graph: &Graph) -> Vec<u8> {
-    let mut edges = graph.edges();
-    random.shuffle(&mut edges);
-    let mut lines = vec![format!("p edge {} {}", graph.n, edges.len())];
-    for (u, v) in edges {
-        lines.push(if random.percent(50) {
-            format!("e {} {}", u + 1, v + 1)
-        } else {
-            format!("e {} {}", v + 1, u + 1)
-        });
+/// A pair in any direction.
+fn turned(random: &mut Random, (u, v): (usize, usize)) -> (usize, usize) {
+    if random.percent(50) {
+        (u, v)
+    } else {
+        (v, u)
     }
+}
+
+/// The same pairs in the same order, and some of them again at any place, in any direction.
+fn with_repeats(random: &mut Random, once: &[(usize, usize)]) -> Vec<(usize, usize)> {
+    let mut pairs = once.to_vec();
+    for _ in 0..random.below(2 * once.len() + 1) {
+        let (pair, place) = (*random.pick(once), random.below(pairs.len() + 1));
+        pairs.insert(place, turned(random, pair));
+    }
+    pairs
+}
+
+/// The pairs that a text may list for a graph: each once in any direction, each in both directions, or some of them
+/// repeated in any direction; mostly in any order.
+fn listed_pairs(random: &mut Random, graph: &Graph) -> Vec<(usize, usize)> {
+    let edges = graph.edges();
+    let once: Vec<(usize, usize)> = edges.iter().map(|&edge| turned(random, edge)).collect();
+    let mut listed = match random.below(3) {
+        0 => once,
+        1 => edges.iter().flat_map(|&(u, v)| [(u, v), (v, u)]).collect(),
+        _ => with_repeats(random, &once),
+    };
+    if random.percent(80) {
+        random.shuffle(&mut listed);
+    }
+    listed
+}
+
+/// The p line, which may state any M, and an e line for each of these pairs.
+fn edge_lines(n: usize, m: usize, pairs: &[(usize, usize)]) -> Vec<String> {
+    let e_lines = pairs.iter().map(|(u, v)| format!("e {} {}", u + 1, v + 1));
+    std::iter::once(format!("p edge {n} {m}")).chain(e_lines).collect()
+}
+
+/// A graph's text with comments at any place, its edges as `listed_pairs` lists them; and how many e lines that are.
+fn sound_text(random: &mut Random, graph: &Graph) -> (Vec<u8>, usize) {
+    let listed = listed_pairs(random, graph);
+    let mut lines = edge_lines(graph.n, listed.len(), &listed);
     for _ in 0..random.below(4) {
         let place = random.below(lines.len() + 1);
         let comment = *random.pick(&["c", "c ", "c p edge 3 3", "c e 1 2", "c  two spaces", "c \u{7f}\r\t"]);
@@ -38,7 +71,7 @@ fn sound_text(random: &mut Random, graph: &Graph) -> Vec<u8> {
     if random.percent(70) {
         text.push(b'\n');
     }
-    text
+    (text, listed.len())
 }
 
 /// A table for N vertices: mostly long enough.
@@ -75,19 +108,78 @@ fn change(random: &mut Random, text: &mut Vec<u8>) {
     }
 }
 
+/// M is the number of e lines, and the table that of the graph, however often and in whichever direction a pair stands.
 #[test]
 fn sound_texts() {
+    let mut repeating = 0;
     cases("sound_texts", 3000, |random| {
         let n = random.between(0, 14);
         let graph = samples::any(random, n);
-        let text = sound_text(random, &graph);
+        let (text, m) = sound_text(random, &graph);
         let more = random.below(50);
         let table = random.bytes(n * n + more);
         let answer = check(&text, &table);
-        let edges = graph.edges().len() as u32;
-        assert_eq!(answer, TextAnswer { refusal: 0, vertices: n as u32, edges, line: 0 });
+        assert_eq!(answer, TextAnswer { refusal: 0, vertices: n as u32, edges: m as u32, line: 0 });
         assert_eq!(library::read_text(&text, &table).table[..n * n], graph.table);
+        repeating += u32::from(m > graph.edges().len());
     });
+    assert!(alone() || repeating > 1000, "only {repeating} texts have a pair more than once");
+}
+
+/// Texts that differ in repeated e lines alone, each with its own M, give the same table; with the M of another, unless it
+/// is the same number, each is refused, since M counts lines and not edges.
+#[test]
+fn repeated_lines() {
+    cases("repeated_lines", 3000, |random| {
+        let n = random.between(2, 14);
+        let mut graph = samples::any(random, n);
+        graph.join(0, 1);
+        let once: Vec<(usize, usize)> = graph.edges().into_iter().map(|edge| turned(random, edge)).collect();
+        let lists = [once.clone(), with_repeats(random, &once), with_repeats(random, &once)];
+        let spare = random.below(50);
+        let table = random.bytes(n * n + spare);
+        let expected = [&graph.table, &table[n * n..]].concat();
+        for pairs in &lists {
+            for m in lists.each_ref().map(Vec::len) {
+                let text = edge_lines(n, m, pairs).join("\n").into_bytes();
+                let answer = check(&text, &table);
+                if m == pairs.len() {
+                    assert_eq!(answer, TextAnswer { refusal: 0, vertices: n as u32, edges: m as u32, line: 0 });
+                    assert_eq!(library::read_text(&text, &table).table, expected, "{pairs:?}");
+                } else {
+                    let line = pairs.len() + 2;
+                    assert_eq!(answer, TextAnswer { refusal: 39, vertices: 0, edges: 0, line }, "M is {m}: {pairs:?}");
+                }
+            }
+        }
+    });
+}
+
+/// Every list of up to four pairs over three vertices, also from a vertex to itself, with every M from 0 to 5: refused at
+/// the first vertex that is joined to itself, else read where M is the number of lines, with the table of the graph.
+#[test]
+fn every_list_of_pairs() {
+    let pairs: Vec<(usize, usize)> = (0..3).flat_map(|u| (0..3).map(move |v| (u, v))).collect();
+    let mut lists: Vec<Vec<(usize, usize)>> = vec![Vec::new()];
+    for _ in 0..=4 {
+        for list in &lists {
+            for m in 0..=5 {
+                let text = edge_lines(3, m, list).join("\n").into_bytes();
+                let reply = library::read_text(&text, &[9; 10]);
+                let refused = |refusal: u32, line: usize| TextAnswer { refusal, vertices: 0, edges: 0, line };
+                let (answer, graph) = match list.iter().position(|(u, v)| u == v) {
+                    Some(place) => (refused(37, place + 2), Graph::empty(3)),
+                    None if m != list.len() => (refused(39, list.len() + 2), Graph::empty(3)),
+                    None => {
+                        (TextAnswer { refusal: 0, vertices: 3, edges: m as u32, line: 0 }, Graph::of_edges(3, list))
+                    }
+                };
+                assert_eq!(check(&text, &[9; 10]), answer, "M is {m}: {list:?}");
+                assert_eq!((&reply.table[..9], reply.table[9]), (&graph.table[..], 9), "M is {m}: {list:?}");
+            }
+        }
+        lists = lists.iter().flat_map(|list| pairs.iter().map(|&pair| [&list[..], &[pair]].concat())).collect();
+    }
 }
 
 #[test]
@@ -96,15 +188,16 @@ fn changed_texts() {
     cases("changed_texts", 60_000, |random| {
         let n = random.between(0, 9);
         let graph = samples::any(random, n);
-        let mut text = sound_text(random, &graph);
+        let (mut text, _) = sound_text(random, &graph);
         for _ in 0..random.between(1, 4) {
             change(random, &mut text);
         }
         let table = some_table(random, n);
         *told.entry(check(&text, &table).refusal).or_insert(0u32) += 1;
     });
-    let common = [0, 31, 32, 33, 34, 36, 38, 39, 40];
+    let common = [0, 31, 32, 33, 34, 36, 39, 40];
     assert!(alone() || common.iter().all(|number| told.get(number) > Some(&20)), "too few of some numbers: {told:?}");
+    assert!(!told.contains_key(&38), "a number that is told no more: {told:?}");
 }
 
 #[test]
@@ -112,7 +205,7 @@ fn texts_cut_at_every_byte() {
     cases("texts_cut_at_every_byte", 150, |random| {
         let n = random.between(0, 9);
         let graph = samples::any(random, n);
-        let text = sound_text(random, &graph);
+        let (text, _) = sound_text(random, &graph);
         let table = some_table(random, n);
         for end in 0..=text.len() {
             check(&text[..end], &table);
@@ -150,6 +243,7 @@ fn all_short_texts() {
     all_texts(b"p edge", b" 012\n", 6, &[9; 5]);
     all_texts(b"p edge 2 1", b"\ne 12", 7, &[9; 5]);
     all_texts(b"p edge 2 1\ne ", b"0123 \n", 5, &[9; 5]);
+    all_texts(b"p edge 2 2\ne 1 2\ne ", b"0123 \n", 5, &[9; 5]);
 }
 
 /// Numbers at their limits, in each of the four places where one stands.
@@ -268,14 +362,16 @@ fn every_refusal_and_every_two() {
             }
         }
     }
-    assert_eq!(told.into_iter().collect::<Vec<_>>(), [0, 31, 32, 33, 34, 35, 36, 37, 38, 39, 40]);
+    assert_eq!(told.into_iter().collect::<Vec<_>>(), [0, 31, 32, 33, 34, 35, 36, 37, 39, 40]);
 }
 
-/// Document 01's order within one line, and the readings of docs/DECISIONS.md, as fixed answers.
+/// Document 01's order within one line, request C-11's repeated pairs, and the readings of docs/DECISIONS.md, as fixed
+/// answers.
 #[test]
 fn fixed_answers() {
     let refused = |refusal: u32, line: usize| TextAnswer { refusal, vertices: 0, edges: 0, line };
-    let cases: [(&[u8], TextAnswer); 24] = [
+    let read = |vertices: u32, edges: u32| TextAnswer { refusal: 0, vertices, edges, line: 0 };
+    let cases: [(&[u8], TextAnswer); 32] = [
         (b"", refused(33, 1)),
         (b"\n", refused(31, 1)),
         (b"c", refused(33, 2)),
@@ -293,16 +389,41 @@ fn fixed_answers() {
         (b"p edge 4 0", refused(40, 1)),
         (b"p edge 3 0\ne 4 4", refused(36, 2)),
         (b"p edge 3 0\ne 3 3", refused(37, 2)),
-        (b"p edge 3 2\ne 3 1\ne 1 3", refused(38, 3)),
+        (b"p edge 3 1\ne 1 2\ne 2 1\n", refused(39, 4)),
+        (b"p edge 3 2\ne 1 2\ne 2 1\n", read(3, 2)),
+        (b"p edge 3 2\ne 3 1\ne 1 3", read(3, 2)),
+        (b"p edge 3 2\ne 1 2\ne 1 2\n", read(3, 2)),
+        (b"p edge 3 3\ne 1 2\ne 2 1\ne 1 2\n", read(3, 3)),
+        (b"p edge 3 1\ne 1 2\ne 2 1\ne 1 2\n", refused(39, 5)),
+        (b"p edge 3 2\ne 1 2\ne 2 1\ne 1 2\n", refused(39, 5)),
+        (b"p edge 3 3\ne 1 2\ne 2 1\ne 2 2\n", refused(37, 4)),
+        (b"p edge 3 3\ne 1 2\ne 2 1\ne 2 01\n", refused(32, 4)),
         (b"p edge 3 2\ne 3 1\n", refused(39, 3)),
         (b"p edge 3 0\ne 3 1\n", refused(39, 3)),
         (b"p edge 3 0000000", refused(32, 1)),
         (b"p edge 3 1000000", refused(32, 1)),
         (b"p edge 3 999999", refused(39, 2)),
-        (b"c \xff\np edge 3 1\nc\ne 1 2", TextAnswer { refusal: 0, vertices: 3, edges: 1, line: 0 }),
+        (b"c \xff\np edge 3 1\nc\ne 1 2", read(3, 1)),
     ];
     for (text, answer) in cases {
         assert_eq!(check(text, &[9; 12]), answer, "{:?}", String::from_utf8_lossy(text));
+    }
+}
+
+/// A repeated pair counts once in the table: that of one edge, whether it stands once, twice or three times.
+#[test]
+fn one_edge_however_often() {
+    let texts: [&[u8]; 5] = [
+        b"p edge 3 1\ne 1 2\n",
+        b"p edge 3 2\ne 1 2\ne 2 1\n",
+        b"p edge 3 2\ne 2 1\ne 2 1\n",
+        b"p edge 3 3\ne 1 2\ne 2 1\ne 1 2\n",
+        b"p edge 3 3\ne 1 2\ne 1 2\ne 1 2\n",
+    ];
+    for text in texts {
+        let reply = library::read_text(text, &[9; 12]);
+        assert_eq!(reply.answer.refusal, 0, "{:?}", String::from_utf8_lossy(text));
+        assert_eq!(reply.table, [0, 1, 0, 1, 0, 0, 0, 0, 0, 9, 9, 9], "{:?}", String::from_utf8_lossy(text));
     }
 }
 
@@ -314,7 +435,7 @@ fn large_texts() {
         let edges: Vec<(usize, usize)> =
             (0..700).map(|i| (i % n, (i * 7 + 1 + i / n) % n)).filter(|(u, v)| u != v).collect();
         let graph = Graph::of_edges(n, &edges);
-        let text = sound_text(&mut random, &graph);
+        let (text, _) = sound_text(&mut random, &graph);
         let table = random.bytes(n * n + 5);
         assert_eq!(check(&text, &table).refusal, 0);
         check(&text, &table[..n * n - 1]);
