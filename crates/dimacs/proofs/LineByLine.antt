@@ -1,22 +1,20 @@
 -- Line by line: what was read so far, and what is left of the text, give the definition's reply. Assumes nothing.
 use Prim.Native.Nat.{ℕ, suc, _+_, _*_, _-_, _≤_, _<_}
-use mathlib.Core.Path.{_≡_, refl, sym, ap, subst, _∙_}
+use mathlib.Core.Path.{_≡_, refl, sym, ap, ap₂, subst, _∙_}
 use mathlib.Core.Bool.{true, false}
 use mathlib.Core.List.{List, [], _∷_, _++_}
 use native.Mathlib.Nat.{mul-le-mul}
 use native.Mathlib.Numerals.{add-one}
 use native.Mathlib.Omega.{arith}
-use lib.ListN.{length, take, drop, replicate, take-append-drop, drop-of-length-le}
+use lib.ListN.{length, take, drop, replicate, take-append-drop, length-drop, drop-of-length-le}
 use lib.Seq.{drop-drop}
 use borrow.Author.Tests.{eq-eqb, ne-eqb}
 use Rattle.model.specs.Text.{Step, bad, next, lineStep, linesOf, TextReply, refusedAt, readFrom, readText}
-use Rattle.number.specs.Field.{Found}
-use Rattle.lines.specs.Line.{readingOf, start, ReadingFits, LineRead}
+use Rattle.lines.specs.Line.{readingOf, start, ReadingFits, LineRead, FirstLine}
 use Rattle.dimacs.specs.Reply.{TextReplies}
 use Rattle.lines.specs.declared.Said.{Said}
 use Rattle.lines.specs.declared.Outcome.the-variants.{Bad, Next}
 use Rattle.dimacs.specs.declared.TextAnswer.{TextAnswer}
-use Rattle.number.proofs.Splits.{lines-at}
 
 -- ---- the replies
 
@@ -105,20 +103,23 @@ module _ {text t₀ t : List ℕ} {s : Said} {at line : ℕ} (f : SoFar text t�
       same : readFrom line (readingOf s t) [] t ≡ readFrom line (readingOf s t) [] t₀
       same = rw (f .rest)
 
-  module _ (h : at < length text) {end : ℕ} (d : Found text at 10 end) where
-    -- the line up to the next byte 10
+  module _ {left : List ℕ} (e : left ≡ drop at text) {size : ℕ} (d : FirstLine left size) where
+    -- the first line of what is left, and the others
     here : List ℕ
-    here = take (end - at) (drop at text)
+    here = take size left
+
+    others : List (List ℕ)
+    others = linesOf (drop (size + 1) left)
 
     -- the definition reads it next
-    reads-here : readFrom line (readingOf s t) (here ∷ linesOf (drop (end + 1) text)) t₀ ≡ readText text t₀
-    unfolding here
-    reads-here = ap (λ (ls : List (List ℕ)). readFrom line (readingOf s t) ls t₀) (sym (lines-at d h)) ∙ f .reads
+    reads-here : readFrom line (readingOf s t) (here ∷ others) t₀ ≡ readText text t₀
+    unfolding here others
+    reads-here = ap (λ (ls : List (List ℕ)). readFrom line (readingOf s t) ls t₀) (sym (d .lines) ∙ ap linesOf e) ∙ f .reads
 
     -- it is at fault
-    pub so-faulty : {k : ℕ} {t' t'' : List ℕ} {a : TextAnswer} → LineRead (lineStep (length t) (readingOf s t) (take (end - at) (drop at text))) s t t' (Bad k) →
+    pub so-faulty : {k : ℕ} {t' t'' : List ℕ} {a : TextAnswer} → LineRead (lineStep (length t) (readingOf s t) (take size left)) s t t' (Bad k) →
         TextReplies (refusedAt k line (readingOf s t') t') t'' a → TextReplies (readText text t₀) t'' a
-    unfolding here readFrom
+    unfolding here others readFrom
     so-faulty {k} {t'} w p = replies-as p (refused-same k line s t' t t' t₀ past ∙ stops ∙ reads-here)
       where
         past : drop (s .vertices * s .vertices) t' ≡ drop (s .vertices * s .vertices) t₀
@@ -127,27 +128,27 @@ module _ {text t₀ t : List ℕ} {s : Said} {at line : ℕ} (f : SoFar text t�
         step : bad k ≡ lineStep (length t₀) (readingOf s t) here
         step = w .step ∙ ap (λ (n : ℕ). lineStep n (readingOf s t) here) (f .size)
 
-        stops : refusedAt k line (readingOf s t) t₀ ≡ readFrom line (readingOf s t) (here ∷ linesOf (drop (end + 1) text)) t₀
-        stops = ap (λ (x : Step). elim x [ bad k ↦ refusedAt k line (readingOf s t) t₀ | next r ↦ readFrom (suc line) r (linesOf (drop (end + 1) text)) t₀ ]) step
+        stops : refusedAt k line (readingOf s t) t₀ ≡ readFrom line (readingOf s t) (here ∷ others) t₀
+        stops = ap (λ (x : Step). elim x [ bad k ↦ refusedAt k line (readingOf s t) t₀ | next r ↦ readFrom (suc line) r others t₀ ]) step
 
     -- the reading goes on after it
-    pub so-next : {t' : List ℕ} {s' : Said} → LineRead (lineStep (length t) (readingOf s t) (take (end - at) (drop at text))) s t t' (Next s') →
-        length t' ≡ length t → SoFar text t₀ t' s' (end + 1) (line + 1)
-    unfolding here readFrom
-    so-next {t'} {s'} w l =
+    pub so-next : {t' : List ℕ} {s' : Said} → LineRead (lineStep (length t) (readingOf s t) (take size left)) s t t' (Next s') →
+        length t' ≡ length t → at < length text → SoFar text t₀ t' s' (at + (size + 1)) (line + 1)
+    unfolding here others readFrom
+    so-next {t'} {s'} w l h =
         let k = w .kept in
         record {
           fit = subst (λ (n : ℕ). ReadingFits s' n) (f .size) (k .fit);
           size = l ∙ f .size;
           rest = k .rest ∙ rest-more (s .vertices * s .vertices) (s' .vertices * s' .vertices) t t₀ (mul-le-mul (k .grows) (k .grows)) (f .rest);
           counted = omega (arith, k .counted, f .counted);
-          lines = omega (arith, f .lines, d .after);
-          within = omega (arith, d .within);
-          reads = ap (λ (n : ℕ). readFrom n (readingOf s' t') (linesOf (drop (end + 1) text)) t₀) (add-one line) ∙ goes ∙ reads-here;
+          lines = omega (arith, f .lines);
+          within = omega (arith, d .within, simp length-drop at (ap length e));
+          reads = ap₂ (λ (n : ℕ) (l : List ℕ). readFrom n (readingOf s' t') (linesOf l) t₀) (add-one line) (sym (ap (drop (size + 1)) e ∙ drop-drop (size + 1) at text)) ∙ goes ∙ reads-here;
         }
       where
         step : next (readingOf s' t') ≡ lineStep (length t₀) (readingOf s t) here
         step = w .step ∙ ap (λ (n : ℕ). lineStep n (readingOf s t) here) (f .size)
 
-        goes : readFrom (suc line) (readingOf s' t') (linesOf (drop (end + 1) text)) t₀ ≡ readFrom line (readingOf s t) (here ∷ linesOf (drop (end + 1) text)) t₀
-        goes = ap (λ (x : Step). elim x [ bad k ↦ refusedAt k line (readingOf s t) t₀ | next r ↦ readFrom (suc line) r (linesOf (drop (end + 1) text)) t₀ ]) step
+        goes : readFrom (suc line) (readingOf s' t') others t₀ ≡ readFrom line (readingOf s t) (here ∷ others) t₀
+        goes = ap (λ (x : Step). elim x [ bad k ↦ refusedAt k line (readingOf s t) t₀ | next r ↦ readFrom (suc line) r others t₀ ]) step

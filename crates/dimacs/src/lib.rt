@@ -64,16 +64,23 @@ pub fn read_text(text: &[u8], table: &mut [u8]) -> TextAnswer
     let mut at: usize = 0;
     let mut line: usize = 1;
     while at < text.len() {
-        let end = number::scan::find(text, at, b'\n');
-        match lines::read_line(&text[at..end], table, s) {
+        let first = lines::read_first(&text[at..], table, s);
+        let outcome = first.outcome;
+        match outcome {
             Outcome::Bad(number) => {
                 return refuse(table, s, number, line);
             }
             Outcome::Next(r) => {
-                s = r;
+                // field by field, since a move of the whole struct moves its padding too, which takes more time than the line
+                s = Said {
+                    passed: r.passed,
+                    vertices: r.vertices,
+                    stated: r.stated,
+                    edges: r.edges,
+                };
             }
         }
-        at = end + 1;
+        at += first.length + 1;
         line += 1;
     }
     finish(table, s, line)

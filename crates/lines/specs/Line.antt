@@ -2,12 +2,15 @@
 use Prim.Native.Nat.{ℕ, _+_, _*_, _≤_, _<_}
 use mathlib.Core.Path.{_≡_}
 use mathlib.Core.Bool.{false}
-use mathlib.Core.List.{List}
+use mathlib.Core.List.{List, _∷_}
 use lib.ListN.{length, getD, take, drop}
-use Rattle.model.specs.Text.{Reading, Step, bad, next}
+use Rattle.model.specs.Text.{Reading, Step, bad, next, linesOf}
+use Rattle.model.specs.EdgeText.{Spells, edge}
 use Rattle.lines.specs.declared.Said.{Said}
 use Rattle.lines.specs.declared.Outcome.{Outcome}
 use Rattle.lines.specs.declared.Outcome.the-variants.{Bad, Next}
+use Rattle.lines.specs.declared.First.{First}
+use Rattle.lines.specs.declared.First.the-variants.{Edge, Other}
 
 -- a line's first byte
 pub record FirstByte (b : ℕ) (line : List ℕ) : Type 0 where
@@ -56,3 +59,13 @@ Carried s before after (Next s') = ReadOn s s' before after
 pub record LineRead (wanted : Step) (s : Said) (before after : List ℕ) (r : Outcome) : Type 0 where
   pub step : stepOf r after ≡ wanted
   pub kept : Carried s before after r
+
+-- the first line of a text has this length, and the others start after its byte 10
+pub record FirstLine (text : List ℕ) (size : ℕ) : Type 0 where
+  pub within : size ≤ length text
+  pub lines : linesOf text ≡ take size text ∷ linesOf (drop (size + 1) text)
+
+-- an e line in form comes first
+abbrev pub EdgeFirst : List ℕ → First → Type 0
+EdgeFirst text (Edge u v size) = FirstLine text size × Spells (take size text) (edge u v)
+EdgeFirst text Other = Unit {0}

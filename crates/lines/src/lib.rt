@@ -7,7 +7,7 @@ ghost use Prim.Native.Nat.{_+_, _<_, _^_};
 ghost use lib.ListN.{length, take, drop};
 ghost use lib.Dec.{eqb};
 ghost use Rattle.model.specs.Text.{pLine, eLine, lineStep, unspaced};
-ghost use Rattle.lines.specs.Line.{FirstByte, readingOf, start, ReadingFits, LineRead};
+ghost use Rattle.lines.specs.Line.{FirstByte, readingOf, start, ReadingFits, LineRead, FirstLine, EdgeFirst};
 use number::Pair;
 
 // What the lines so far say: whether a p line passed, its N and M, and the count of e lines.
@@ -22,6 +22,18 @@ pub struct Said {
 pub enum Outcome {
     Bad(u32),
     Next(Said),
+}
+
+// The first line of a text: an e line in form that byte 10 ends, with its U, V and length, or another one.
+pub enum First {
+    Edge(usize, usize, usize),
+    Other,
+}
+
+// What came of the first line of a text, and its length.
+pub struct Passage {
+    pub outcome: Outcome,
+    pub length: usize,
 }
 
 // Whether a line starts with these bytes, as a p line "starts with the six bytes `p edge`".
@@ -181,5 +193,53 @@ pub fn read_line(line: &[u8], table: &mut [u8], s: Said) -> Outcome
         b'p' => problem_line(line, table, s),
         b'e' => edge_line(line, table, s),
         _ => Outcome::Bad(31),
+    }
+}
+
+// Whether the first line is an e line in form: its end is met as its numbers are read, so that each byte is looked at once.
+fn first_edge(text: &[u8]) -> First
+    ensures { λ r. ⌜ EdgeFirst (now (text .entry)) r ⌝ }
+{
+    if !starts(text, b"e ") {
+        return First::Other;
+    }
+    let u = number::ended(&text[2..], b' ');
+    let digits = u.count;
+    if digits == 0 {
+        return First::Other;
+    }
+    let at = digits + 3;
+    let v = number::ended(&text[at..], b'\n');
+    let more = v.count;
+    if more == 0 {
+        return First::Other;
+    }
+    First::Edge(u.value, v.value, at + more)
+}
+
+// Reads the first line of a text. Most lines are e lines in form, and only another one is searched for its end.
+pub fn read_first(text: &[u8], table: &mut [u8], s: Said) -> Passage
+    requires { ⌜ 0 < length (now text) ⌝ }
+    requires { ⌜ ReadingFits s (length (now table)) ⌝ }
+    requires { ⌜ s .edges + 1 < 2 ^ 64 ⌝ }
+    ensures { λ r. ⌜ FirstLine (now (text .entry)) (r .length) ⌝ }
+    ensures { λ r. ⌜ LineRead (lineStep (length (now (table .entry))) (readingOf s (now (table .entry))) (take (r .length) (now (text .entry)))) s (now (table .entry)) (now (table .exit)) (r .outcome) ⌝ }
+{
+    match first_edge(text) {
+        First::Edge(u, v, length) => {
+            if !s.passed {
+                return Passage {
+                    outcome: Outcome::Bad(33),
+                    length,
+                };
+            }
+            let outcome = edge(table, s, u, v);
+            Passage { outcome, length }
+        }
+        First::Other => {
+            let length = number::scan::find(text, b'\n');
+            let outcome = read_line(&text[..length], table, s);
+            Passage { outcome, length }
+        }
     }
 }

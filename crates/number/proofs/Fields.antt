@@ -1,5 +1,5 @@
 -- Two fields of a line and the numbers they are. Assumes nothing.
-use Prim.Native.Nat.{ℕ, _+_, _≤_, _<_, zero-le}
+use Prim.Native.Nat.{ℕ, _+_, _≤_, _<_}
 use mathlib.Core.Path.{_≡_, refl, sym, ap, ap₂, _∙_}
 use mathlib.Core.Bool.{Bool, true, false, _&&_, and-false}
 use mathlib.Core.List.{List, [], _∷_}
@@ -44,11 +44,11 @@ two-fields a l k = go (shape l)
     go (whole w) = rw w
     go (parted f g fs w d) = rw w (sym (ap (λ (o : Option ℕ). two (numberOf a) o k) (sym (number-spoilt l d)) ∙ two-none (numberOf a) k))
 
-module _ {s : List ℕ} {r : ℕ} (f : Found s 0 32 r) where
+module _ {s : List ℕ} {r : ℕ} (f : Found s 32 r) where
   -- with no space there is only one field
   pub two-single : length s ≤ r → (k : ℕ → ℕ → Step) → bad 32 ≡ twoOf (fieldsOf s) k
   unfolding twoOf
-  two-single h k = rw (field-last s (nowhere 32 s (λ i l e. f .passed i (omega arith) zero-le e)))
+  two-single h k = rw (field-last s (nowhere 32 s (λ i l e. f .passed i (omega arith) e)))
 
   module _ (h : r < length s) where
     -- a field up to the first space, and the rest

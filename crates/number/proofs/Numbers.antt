@@ -1,36 +1,26 @@
 -- Digits and the numbers they make. Assumes nothing.
-use Prim.Native.Nat.{ℕ, _+_, _*_, _-_, _≤_, _<_, _^_}
-use mathlib.Core.Path.{_≡_, sym, ap, subst, _∙_}
-use mathlib.Core.Bool.{true, false, _&&_, and-false, and-true, or-true}
-use mathlib.Core.List.{List, [], _∷_}
+use Prim.Native.Nat.{ℕ, zero, suc, _+_, _*_, _-_, _≤_, _<_, _^_}
+use mathlib.Core.Path.{_≡_, refl, sym, ap, subst, _∙_}
+use mathlib.Core.Bool.{Bool, true, false, _&&_, and-false, or-true}
+use mathlib.Core.List.{List, [], _∷_, _++_}
 use mathlib.Core.Option.{Option, none, some}
-use native.Mathlib.Nat.{pow-suc, pow-le-pow-right, le-trans}
+use native.Mathlib.Nat.{zero-add, pow-suc, pow-le-pow-right, le-trans}
 use native.Mathlib.Numerals.{add-one}
 use native.Mathlib.Omega.{arith}
-use lib.ListN.{length, getD, drop, drop-of-length-le}
-use lib.Seq.{drop-cons}
+use lib.ListN.{length, getD, take, drop}
+use lib.Seq.{take-suc, drop-cons}
 use lib.Dec.{leb, eqb}
 use borrow.Author.Tests.{le-leb, lt-leb, ne-eqb}
 use Rattle.model.specs.Text.{digits, decimal, numberOf}
 use Rattle.number.specs.declared.Field.{Field}
 use Rattle.number.specs.declared.Pair.{Pair}
-use Rattle.number.specs.Field.{NumberRead, digitsOf, PairRead}
+use Rattle.number.specs.Field.{FirstDigit, NumberRead, PairRead}
 
 -- ---- a digit at a place
 
 module _ (f : List ℕ) (i : ℕ) (lt : i < length f) where
   at-place : drop i f ≡ getD f i 0 ∷ drop (i + 1) f
   at-place = drop-cons f i 0 lt ∙ ap (λ (k : ℕ). getD f i 0 ∷ drop k f) (sym (add-one i))
-
-  -- a digit is passed
-  pub digit-passed : 48 ≤ getD f i 0 → getD f i 0 ≤ 57 → digits (drop i f) ≡ digits (drop (i + 1) f)
-  unfolding digits
-  digit-passed a b = ap digits at-place ∙ rw (le-leb _ _ a, le-leb _ _ b)
-
-  -- and counts ten times what stands before it
-  pub digit-counted : (v : ℕ) → decimal v (drop i f) ≡ decimal (v * 10 + (getD f i 0 - 48)) (drop (i + 1) f)
-  unfolding decimal
-  digit-counted v = ap (λ (l : List ℕ). decimal v l) at-place
 
   -- a byte below or above the digits is none
   pub digit-below : getD f i 0 < 48 → digits (drop i f) ≡ false
@@ -41,20 +31,46 @@ module _ (f : List ℕ) (i : ℕ) (lt : i < length f) where
   unfolding digits
   digit-above a = ap digits at-place ∙ rw (lt-leb _ _ a, and-false (leb 48 (getD f i 0)))
 
--- ---- a field of digits
+-- what is no digit from a place on is none from the first place on
+pub spoilt-from : (f : List ℕ) (i : ℕ) → digits (drop i f) ≡ false → digits f ≡ false
+unfolding digits
+spoilt-from f zero e = e
+spoilt-from [] (suc i) e = e
+spoilt-from (x ∷ f) (suc i) e = rw (spoilt-from f i e, and-false (leb 48 x && leb x 57))
 
--- a byte that is no digit spoils the field
-pub spoilt : (f : List ℕ) → digits f ≡ false → _≡_ {A = Option ℕ} none (digitsOf f)
-spoilt f e = rw e
+-- ---- the digits before a place
 
--- past the end the number is whole
-pub counted : (f : List ℕ) (i v : ℕ) → length f ≤ i → digits f ≡ digits (drop i f) → decimal 0 f ≡ decimal v (drop i f) → some v ≡ digitsOf f
-unfolding digits decimal
-counted f i v h d e =
-    let none-left : drop i f ≡ [] = drop-of-length-le f h in
-    let all : digits f ≡ true = d ∙ ap digits none-left in
-    let value : decimal 0 f ≡ v = e ∙ ap (λ (l : List ℕ). decimal v l) none-left in
-    rw (all, value)
+module _ (f : List ℕ) (h : FirstDigit f) where
+  -- the first
+  pub first-digit : digits (take 1 f) ≡ true
+  unfolding digits
+  first-digit = ap digits (take-suc f 0 0 (h .some)) ∙ rw (le-leb 48 _ (h .from), le-leb _ 57 (h .to))
+
+  pub first-value : decimal 0 (take 1 f) ≡ getD f 0 0 - 48
+  unfolding decimal
+  first-value = ap (decimal 0) (take-suc f 0 0 (h .some)) ∙ zero-add (getD f 0 0 - 48)
+
+-- one more keeps them digits
+digits-more : (x : ℕ) (l : List ℕ) → 48 ≤ x → x ≤ 57 → digits (l ++ (x ∷ [])) ≡ digits l
+unfolding digits
+digits-more x [] a b = rw (le-leb 48 x a, le-leb x 57 b)
+digits-more x (y ∷ l) a b = ap (λ (t : Bool). leb 48 y && leb y 57 && t) (digits-more x l a b)
+
+-- and adds to ten times their value
+decimal-more : (v x : ℕ) (l : List ℕ) → decimal v (l ++ (x ∷ [])) ≡ decimal v l * 10 + (x - 48)
+unfolding decimal
+decimal-more v x [] = refl
+decimal-more v x (y ∷ l) = decimal-more (v * 10 + (y - 48)) x l
+
+module _ (f : List ℕ) (i : ℕ) (lt : i < length f) where
+  one-more : take (i + 1) f ≡ take i f ++ (getD f i 0 ∷ [])
+  one-more = ap (λ (k : ℕ). take k f) (add-one i) ∙ take-suc f i 0 lt
+
+  pub digit-more : 48 ≤ getD f i 0 → getD f i 0 ≤ 57 → digits (take (i + 1) f) ≡ digits (take i f)
+  digit-more a b = ap digits one-more ∙ digits-more (getD f i 0) (take i f) a b
+
+  pub value-more : decimal 0 (take (i + 1) f) ≡ decimal 0 (take i f) * 10 + (getD f i 0 - 48)
+  value-more = ap (decimal 0) one-more ∙ decimal-more 0 (getD f i 0) (take i f)
 
 -- ---- the size of a number
 
@@ -98,10 +114,10 @@ module _ (f : List ℕ) where
       go (x ∷ []) h e = rw e
       go (x ∷ y ∷ l) h e = absurd (omega arith)
 
-  -- a first digit other than 0: all has to be digits
-  pub number-digits : 0 < length f → length f ≤ 6 → (getD f 0 0 ≡ 48 → ⊥) → digitsOf f ≡ numberOf f
+  -- digits, of which the first is not 0
+  pub number-digits : 0 < length f → length f ≤ 6 → (getD f 0 0 ≡ 48 → ⊥) → digits f ≡ true → some (decimal 0 f) ≡ numberOf f
   unfolding numberOf
-  number-digits h l e = rw (le-leb 1 (length f) h, le-leb (length f) 6 l, ne-eqb (getD f 0 0) 48 e, or-true (eqb (length f) 1), and-true (digits f))
+  number-digits h l e d = rw (le-leb 1 (length f) h, le-leb (length f) 6 l, d, ne-eqb (getD f 0 0) 48 e, or-true (eqb (length f) 1))
 
 -- ---- a field, or two, as they were read
 

@@ -1,22 +1,55 @@
 -- What the readers of fields and numbers promise. Assumes nothing.
 use Prim.Native.Nat.{ℕ, _≤_, _<_}
 use mathlib.Core.Path.{_≡_}
-use mathlib.Core.Bool.{cond}
+use mathlib.Core.Bool.{true, false}
 use mathlib.Core.List.{List, [], _∷_}
 use mathlib.Core.Option.{Option, none, some}
-use lib.ListN.{length, getD}
+use lib.ListN.{length, getD, take}
 use Rattle.model.specs.Text.{Step, bad, digits, decimal, numberOf, fieldsOf, two}
+use Rattle.number.specs.declared.Lead.{Lead}
 use Rattle.number.specs.declared.Field.{Field}
 use Rattle.number.specs.declared.Field.the-variants.{Number, NoNumber}
 use Rattle.number.specs.declared.Pair.{Pair}
 use Rattle.number.specs.declared.Pair.the-variants.{Numbers, NoPair}
 
--- r is the first place of byte b in s from a place on, or the end of s
-pub record Found (s : List ℕ) (from b r : ℕ) : Type 0 where
-  pub after : from ≤ r
+-- r is the first place of byte b in s, or the end of s
+pub record Found (s : List ℕ) (b r : ℕ) : Type 0 where
   pub within : r ≤ length s
-  pub passed : (k : ℕ) → k < r → from ≤ k → getD s k 0 ≡ b → ⊥
+  pub passed : (k : ℕ) → k < r → getD s k 0 ≡ b → ⊥
   pub hit : r < length s → getD s r 0 ≡ b
+
+-- ---- what some bytes start with
+
+-- a digit
+pub record FirstDigit (s : List ℕ) : Type 0 where
+  pub some : 0 < length s
+  pub from : 48 ≤ getD s 0 0
+  pub to : getD s 0 0 ≤ 57
+
+-- digits and their value: 1 to 6, and fewer than 6 only where no further one follows
+pub record DigitsLead (s : List ℕ) (r : Lead) : Type 0 where
+  pub some : 0 < r .count
+  pub six : r .count ≤ 6
+  pub within : r .count ≤ length s
+  pub digit : digits (take (r .count) s) ≡ true
+  pub value : decimal 0 (take (r .count) s) ≡ r .value
+  pub small : r .value < 1000000
+  pub last : r .count < 6 → r .count < length s → digits s ≡ false
+
+-- a number, unless the count is 0; all bytes together are one only where none is left
+pub record NumberLeads (s : List ℕ) (r : Lead) : Type 0 where
+  pub within : r .count ≤ length s
+  pub number : 0 < r .count → some (r .value) ≡ numberOf (take (r .count) s)
+  pub small : r .value < 1000000
+  pub whole : r .count < length s → none ≡ numberOf s
+
+-- a number and then byte b
+pub record NumberEnds (s : List ℕ) (b : ℕ) (r : Lead) : Type 0 where
+  pub within : r .count < length s
+  pub byte : getD s (r .count) 0 ≡ b
+  pub number : some (r .value) ≡ numberOf (take (r .count) s)
+
+-- ---- fields
 
 -- the number that a field was read as
 abbrev pub valueOf : Field → Option ℕ
@@ -32,10 +65,6 @@ SixDigits NoNumber = Unit {0}
 pub record NumberRead (wanted : Option ℕ) (r : Field) : Type 0 where
   pub value : valueOf r ≡ wanted
   pub small : SixDigits r
-
--- the number of a field that has 1 to 6 bytes and no leading zero: they are to be digits
-abbrev pub digitsOf : List ℕ → Option ℕ
-digitsOf f = cond (digits f) (some (decimal 0 f)) none
 
 -- exactly two fields, each a number, or 32
 unfoldable pub twoOf : List (List ℕ) → (ℕ → ℕ → Step) → Step

@@ -1,11 +1,12 @@
 -- `dimacs::read_text` meets its contract: its answer and the table slice are those of `readText`.
 -- The loop's invariant is `SoFar`: what is left of the text decides the rest. Assumes nothing.
-use Prim.Native.Nat.{ℕ, _+_, _-_}
-use mathlib.Core.Path.{sym, subst, _∙_}
+use Prim.Native.Nat.{ℕ, _+_, _-_, _≤_}
+use mathlib.Core.Path.{_≡_, sym, subst, _∙_}
 use native.Mathlib.Omega.{arith}
-use lib.ListN.{length}
+use lib.ListN.{length, take, drop}
 use borrow.Author.Needs.{needs}
 use Rattle.lines.specs.Line.{ReadingFits}
+use Rattle.number.proofs.Splits.{part-tail, part-length}
 use Rattle.lines.proofs.Steps.{stepped-at}
 use Rattle.dimacs.proofs.LineByLine.{SoFar, so-fit, so-none, so-ended, so-faulty, so-next}
 use Rattle.dimacs.proofs.read_text.Statement.{statement}
@@ -20,57 +21,61 @@ abbrev μ-loop : tie.MeasureT-loop
 loop-holds : tie.Need-loop-holds Inv-loop μ-loop
 loop-holds c = so-none _ _
 
-part-read-line-start : tie.Need-part-read-line-start Inv-loop μ-loop
-part-read-line-start c = c .find .ensures .after
+read-first-requires : tie.Need-read-first-requires Inv-loop μ-loop
+read-first-requires c κs =
+    let l = c .before .before .before .loop in
+    let e = part-length (c .before .before .before .before .before .before .args .text .now) (l .at) in
+    (omega arith, (so-fit (l .inv), omega (arith, l .inv .counted, l .inv .lines)))
 
-part-read-line-end : tie.Need-part-read-line-end Inv-loop μ-loop
-part-read-line-end c = c .find .ensures .within
+-- what is lent is what is left of the text
+lent : (c : tie.After-read-first Inv-loop μ-loop) →
+    let text = c .before .before .before .before .before .before .before .args .text .now in
+    let at = c .before .before .before .before .loop .at in
+    take (length text - at) (drop at text) ≡ drop at text
+lent c = part-tail (c .before .before .before .before .before .before .before .args .text .now) (c .before .before .before .before .loop .at)
 
-read-line-requires : tie.Need-read-line-requires Inv-loop μ-loop
-read-line-requires c κs =
-    let l = c .before .before .before .before .loop in
-    (so-fit (l .inv), omega (arith, l .inv .counted, l .inv .lines, c .before .before .before .loop-test .taken))
+-- the line that was read is within the text
+within : (c : tie.After-read-first Inv-loop μ-loop) →
+    c .before .before .before .before .loop .at + c .read-first .result .length ≤ length (c .before .before .before .before .before .before .before .args .text .now)
+within c =
+    let e = part-length (c .before .before .before .before .before .before .before .args .text .now) (c .before .before .before .before .loop .at) in
+    omega (arith, c .read-first .ensures .0 .within)
 
 refuse-requires : tie.Need-refuse-requires Inv-loop μ-loop
 refuse-requires c κs =
     let r = c .before .before .before .before .before .before in
-    let l = r .before .before .before .before .before .loop in
-    subst (λ (n : ℕ). ReadingFits (l .s) n) (sym (r .read-line .kept .1 .0)) (so-fit (l .inv))
+    let l = r .before .before .before .before .loop in
+    subst (λ (n : ℕ). ReadingFits (l .s) n) (sym (r .read-first .kept .1 .0)) (so-fit (l .inv))
 
 same-length : tie.Need-same-length Inv-loop μ-loop
 same-length c =
     let r = c .before .before .before .before .before .before .before .before .before in
-    c .before .before .refuse .kept .0 ∙ r .read-line .kept .1 .0 ∙ r .before .before .before .before .before .loop .inv .size
+    c .before .before .refuse .kept .0 ∙ r .read-first .kept .1 .0 ∙ r .before .before .before .before .loop .inv .size
 
 returns : tie.Need-returns Inv-loop μ-loop
 returns c =
     let m = c .before .before .before .before .before in
     let r = m .before .before .before .before in
-    let e = r .before .before .before in
-    let l = e .before .before .loop in
-    so-faulty (l .inv) (omega (arith, e .before .loop-test .taken)) (e .find .ensures)
-    (stepped-at (r .read-line .ensures) (m .number .given .1)) (c .before .before .refuse .ensures)
+    so-faulty (r .before .before .before .before .loop .inv) (lent r) (r .read-first .ensures .0)
+    (stepped-at (r .read-first .ensures .1) (m .outcome .given .1)) (c .before .before .refuse .ensures)
 
 add-at : tie.Need-add-at Inv-loop μ-loop
-add-at c = omega (arith, c .before .before .before .before .before .before .before .before .find .ensures .within)
+add-at c = omega (arith, within (c .before .before .before .before .before .before))
+
+add-at-2 : tie.Need-add-at-2 Inv-loop μ-loop
+add-at-2 c = omega (arith, within (c .before .before .before .before .before .before))
 
 add-line : tie.Need-add-line Inv-loop μ-loop
-add-line c =
-    let e = c .before .before .before .before .before .before .before .before in
-    omega (arith, e .before .before .loop .inv .lines, e .before .loop-test .taken)
+add-line c = omega (arith, c .before .before .before .before .before .before .before .before .before .before .loop .inv .lines)
 
 loop-less : tie.Need-loop-less Inv-loop μ-loop
-loop-less c =
-    let e = c .before .before .before .before .before .before .before .before in
-    omega (arith, e .find .ensures .after, e .find .ensures .within)
+loop-less c = omega (arith, within (c .before .before .before .before .before .before))
 
 loop-again : tie.Need-loop-again Inv-loop μ-loop
 loop-again c =
-    let r = c .before .before .before .before .before in
-    let e = r .before .before .before in
-    let l = e .before .before .loop in
-    so-next (l .inv) (omega (arith, e .before .loop-test .taken)) (e .find .ensures)
-    (stepped-at (r .read-line .ensures) (c .before .r .given .1)) (r .read-line .kept .1 .0)
+    let r = c .before .before .before .before .before .before in
+    so-next (r .before .before .before .before .loop .inv) (lent r) (r .read-first .ensures .0)
+    (stepped-at (r .read-first .ensures .1) (c .before .before .outcome2 .given .1)) (r .read-first .kept .1 .0) (r .before .before .before .loop-test .taken)
 
 finish-requires : tie.Need-finish-requires Inv-loop μ-loop
 finish-requires c κs = so-fit (c .before .before .loop .inv)
@@ -86,6 +91,5 @@ returns-2 c =
 pub read-text-spec : {M : Type 1} → statement M
 read-text-spec =
     tie.close
-    (tie.spec Inv-loop μ-loop loop-holds (λ c κs. search needs) (λ c. search needs) part-read-line-start part-read-line-end read-line-requires
-    (λ c. search needs) refuse-requires same-length returns (λ c. search needs) add-at add-line loop-less loop-again finish-requires same-length-2
-    returns-2)
+    (tie.spec Inv-loop μ-loop loop-holds (λ c. search needs) (λ c. search needs) (λ c. search needs) read-first-requires (λ c. search needs) refuse-requires
+    same-length returns (λ c. search needs) add-at add-at-2 add-line loop-less loop-again finish-requires same-length-2 returns-2)
