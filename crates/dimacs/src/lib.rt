@@ -12,7 +12,7 @@ use lines::Said;
 pub struct TextAnswer {
     pub refusal: u32,
     pub vertices: u32,
-    pub edges: u32,
+    pub edges: u32, // M, the count of e lines
     pub line: usize,
 }
 

@@ -25,7 +25,7 @@ pub enum Outcome {
 }
 
 // The first line of a text: an e line in form that byte 10 ends, with its U, V and length, or another one.
-pub enum First {
+enum First {
     Edge(usize, usize, usize),
     Other,
 }
@@ -173,7 +173,7 @@ fn edge_line(line: &[u8], table: &mut [u8], s: Said) -> Outcome
 }
 
 // One line: 31 empty, or another first letter; then by its first letter.
-pub fn read_line(line: &[u8], table: &mut [u8], s: Said) -> Outcome
+fn read_line(line: &[u8], table: &mut [u8], s: Said) -> Outcome
     requires { ⌜ ReadingFits s (length (now table)) ⌝ }
     requires { ⌜ s .edges + 1 < 2 ^ 64 ⌝ }
     ensures { λ r. ⌜ LineRead (lineStep (length (now (table .entry))) (readingOf s (now (table .entry))) (now (line .entry))) s (now (table .entry)) (now (table .exit)) r ⌝ }
