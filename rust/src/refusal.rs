@@ -79,7 +79,7 @@ impl Refusal {
         self as u32
     }
 
-    /// The refusal of a number, `None` where no refusal has this number.
+    /// The refusal of a number, `None` where no refusal here has it: 41, a text that is too long, is the program's alone.
     ///
     /// ```
     /// use isolated::Refusal;

@@ -12,7 +12,7 @@ pub struct TextGraph {
     /// The M of the p line, which is the number of e lines.
     ///
     /// Where a pair is repeated that is more than the graph has edges. Their number is half the sum of the degrees, so
-    /// half the ones of the table:
+    /// half the ones among the first N × N bytes of the table:
     ///
     /// ```
     /// # fn main() -> Result<(), isolated::TextRefusal> {

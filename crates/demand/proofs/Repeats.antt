@@ -1,18 +1,16 @@
 -- C-11 holds of every call of `dimacs::read_text`.
 -- Assumes nothing.
-use Prim.Native.Nat.{ℕ}
-use mathlib.Core.Path.{_≡_, sym, _∙_, subst}
-use mathlib.Core.List.{List}
+use Prim.Native.Nat.{ℕ, _*_, _≤_}
+use mathlib.Core.Path.{refl, sym, _∙_, subst}
+use native.Mathlib.Omega.{arith}
 use lib.ListN.{length}
-use Rattle.model.specs.EdgeText.{EdgeText}
-use Rattle.theory.proofs.text.EdgeTextRepeats.{never-38, miscounted-iff, repeats-swap, repeats-graph}
-use Rattle.demand.specs.Membership.{TextDemand}
+use Rattle.theory.proofs.text.EdgeTextRepeats.{never-told, miscounted-iff, repeats-graph}
 use Rattle.demand.specs.Repeats.{Never38Demand, ComparesLinesDemand, RepeatsDemand}
 use Rattle.demand.proofs.Membership.{reader-demand}
 
 -- No call answers 38.
 pub never-38-demand : Never38Demand
-never-38-demand text before after a h e = never-38 text before (sym (h .refusal) ∙ e)
+never-38-demand text before after a h e = never-told _ (λ z. omega arith) (λ room xs l. refl) (λ xs. refl) text before (sym (h .refusal) ∙ e)
 
 -- A call answers 39 exactly where M differs from the number of e lines and nothing else is at fault.
 pub compares-lines-demand : ComparesLinesDemand
@@ -23,30 +21,10 @@ compares-lines-demand text before after a h i = (
 
 -- Texts that differ only in repeated e lines give the same table.
 pub repeats-demand : RepeatsDemand
-repeats-demand text before after a h other other-before other-after b g long d =
-    record {
-      read-both = (
-        λ e. let r = graph e in second .read-iff .1 (r .0, r .2, r .3, r .5),
-        λ e.
-            let r = second .read-iff .0 e in
-            let s = repeats-graph (length other-before) other text (repeats-swap text other d) (r .0) (r .1) (r .2) (r .3) in
-            first .read-iff .1 (r .0, s .0, r .2, subst (λ (room : ℕ). EdgeText room text (r .0) (s .0) (r .2)) (sym long) (s .1)),
-      );
-      table = λ e.
-          let r = graph e in
-          (r .0, r .1, r .2, r .3, first .graph (r .0) (r .1) (r .3) (r .4), second .graph (r .0) (r .2) (r .3) (r .5));
-    }
-  where
-    first : TextDemand text before after a
-    first = reader-demand text before after a h
-
-    second : TextDemand other other-before other-after b
-    second = reader-demand other other-before other-after b g
-
-    -- the graph of the first text is that of the second
-    graph : a .refusal ≡ 0
-        → (n : ℕ) × (m : ℕ) × (k : ℕ) × (t : List ℕ) × EdgeText (length before) text n m t × EdgeText (length other-before) other n k t
-    graph e =
-        let r = first .read-iff .0 e in
-        let s = repeats-graph (length before) text other d (r .0) (r .1) (r .2) (r .3) in
-        (r .0, r .1, s .0, r .2, r .3, subst (λ (room : ℕ). EdgeText room other (r .0) (s .0) (r .2)) long (s .1))
+repeats-demand text before after a h other other-before other-after b g d e room =
+    let first = reader-demand text before after a h in
+    let r = first .read-iff .0 e in
+    let read = first .graph (r .0) (r .1) (r .2) (r .3) in
+    let fits : r .0 * r .0 ≤ length other-before = subst (λ (n : ℕ). n * n ≤ length other-before) (read .vertices) room in
+    let s = repeats-graph (length before) (length other-before) text other d (r .0) (r .1) (r .2) (r .3) fits in
+    (r .0, r .1, s .0, r .2, read, reader-demand other other-before other-after b g .graph (r .0) (s .0) (r .2) (s .1))

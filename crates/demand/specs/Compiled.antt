@@ -1,7 +1,7 @@
 -- What demands 2 and 3 and the request C-11 say of a compiled function, over its contract as the checker itself reads it from the function's source and proves it: `Post` is
 -- that contract, of the arguments, the answer and the memory at exit.
 -- Assumes nothing.
-use Prim.Native.Nat.{ℕ}
+use Prim.Native.Nat.{ℕ, _*_, _≤_}
 use mathlib.Core.Path.{_≡_}
 use mathlib.Core.Logic.{_↔_}
 use mathlib.Core.List.{List, [], _∷_, map}
@@ -129,5 +129,6 @@ ComparesLinesHolds Post = (k : CompiledRead Post) → ComparesLines (textOf k) (
 -- and texts that differ only in repeated e lines, each with its own right M, give the same table.
 abbrev pub RepeatsHold : Out 2 reader-kinds.ps reader-kinds.r → Type 0
 RepeatsHold Post =
-    (k l : CompiledRead Post) → length (tableLent k) ≡ length (tableLent l) → DifferInRepeats (textOf k) (textOf l)
+    (k l : CompiledRead Post) → DifferInRepeats (textOf k) (textOf l) → k .answer .refusal ≡ 0
+    → k .answer .vertices * k .answer .vertices ≤ length (tableLent l)
     → SameTable (tableLent k) (tableLeft k) (k .answer) (tableLent l) (tableLeft l) (l .answer)

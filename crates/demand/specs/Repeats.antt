@@ -1,6 +1,6 @@
 -- Document 02, C-11, of the calls of `dimacs::read_text`: 38 no longer occurs, 39 compares lines, and a repeated pair counts once in the table.
 -- Assumes nothing.
-use Prim.Native.Nat.{ℕ}
+use Prim.Native.Nat.{ℕ, _*_, _≤_}
 use mathlib.Core.Path.{_≡_}
 use mathlib.Core.Logic.{_↔_, _≢_}
 use mathlib.Core.List.{List}
@@ -28,15 +28,16 @@ ComparesLines text before a = (i : ℕ) → ((a .refusal ≡ 39) × (a .line ≡
 abbrev pub ComparesLinesDemand : Type 0
 ComparesLinesDemand = (text before after : List ℕ) (a : TextAnswer) → ReadsAs text before after a → ComparesLines text before a
 
--- two calls that both read their texts or both do not; and where they do, one table stands in both slices
-pub record SameTable (before after : List ℕ) (a : TextAnswer) (other-before other-after : List ℕ) (b : TextAnswer) : Type 0 where
-  pub read-both : (a .refusal ≡ 0) ↔ (b .refusal ≡ 0)
-  pub table : a .refusal ≡ 0 → (n : ℕ) × (m : ℕ) × (k : ℕ) × (t : List ℕ) × Read n m t before after a × Read n k t other-before other-after b
+-- two calls read their texts, and one table stands in both slices
+abbrev pub SameTable : List ℕ → List ℕ → TextAnswer → List ℕ → List ℕ → TextAnswer → Type 0
+SameTable before after a other-before other-after b =
+    (n : ℕ) × (m : ℕ) × (k : ℕ) × (t : List ℕ) × Read n m t before after a × Read n k t other-before other-after b
 
--- "A repeated pair now counts once in the table": two texts that differ only in repeated e lines, each with its own right M, give the same table. The
--- slices may hold anything and are of one length, since a table that is too short is 40
+-- "A repeated pair now counts once in the table": of two texts that differ only in repeated e lines, each with its own right M, where one is read and
+-- the other's slice can hold its table too, both are read and give the same table
 abbrev pub RepeatsDemand : Type 0
 RepeatsDemand =
     (text before after : List ℕ) (a : TextAnswer) → ReadsAs text before after a
     → (other other-before other-after : List ℕ) (b : TextAnswer) → ReadsAs other other-before other-after b
-    → length before ≡ length other-before → DifferInRepeats text other → SameTable before after a other-before other-after b
+    → DifferInRepeats text other → a .refusal ≡ 0 → a .vertices * a .vertices ≤ length other-before
+    → SameTable before after a other-before other-after b

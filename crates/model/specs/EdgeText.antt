@@ -80,7 +80,7 @@ SpellAll (l ∷ ls) (x ∷ xs) = Spells l x × SpellAll ls xs
 
 -- ---- an accepted text
 
--- the count of e lines
+-- the count of e lines, not of pairs: one that is given again counts again
 abbrev pub edges : List Line → ℕ
 edges [] = 0
 edges (comment ∷ xs) = edges xs

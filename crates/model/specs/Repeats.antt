@@ -1,5 +1,5 @@
--- Document 02, C-11: texts that differ only in e lines whose pair is given again, in this direction or the other, and in M, which counts the e
--- lines of each. `Rattle.theory.proofs.text.EdgeTextRepeats` shows that they are texts of one graph.
+-- Document 02, C-11: texts that differ only in e lines whose pair is given again, in this direction or the other, in M, which counts the e lines
+-- of each, and in comments. `Rattle.theory.proofs.text.EdgeTextRepeats` shows that they are texts of one graph.
 -- Assumes nothing.
 use Prim.Native.Nat.{ℕ}
 use mathlib.Core.Path.{_≡_}
@@ -16,22 +16,24 @@ butM (edge u v) = edge u v
 abbrev pub NoProblem : List Line → Type 0
 NoProblem xs = (n m : ℕ) → List·Memᴰ (problem n m) xs → ⊥
 
--- ys are the lines xs, M aside, with e lines put in whose pair the lines `all` have, in either direction
+-- ys are the lines xs, M aside, with comments put in and e lines whose pair the lines `all` have, in either direction
 pub data PutIn (all : List Line) : List Line → List Line → Type 0 where
-  ended : PutIn all [] []
+  none : PutIn all [] []
   -- both have this line, but for M
   kept : {x y : Line} {xs ys : List Line} → butM x ≡ butM y → PutIn all xs ys → PutIn all (x ∷ xs) (y ∷ ys)
+  -- a comment put in
+  noted : {xs ys : List Line} → PutIn all xs ys → PutIn all xs (comment ∷ ys)
   -- an e line put in, after the p line: none is still to come
   repeated : {u v : ℕ} {xs ys : List Line} → HasPair all u v → NoProblem xs → PutIn all xs ys → PutIn all xs (edge u v ∷ ys)
 
--- both are the same lines, with repeated e lines put in
+-- both are the same lines, with repeated e lines and comments put in
 pub record OnlyRepeats (xs ys : List Line) : Type 0 where
   pub shared : List Line
   pub first : PutIn shared shared xs
   pub second : PutIn shared shared ys
 
 -- a text's lines say this, and every M that they state is the count of their e lines
-pub record Counted (text : List ℕ) (said : List Line) : Type 0 where
+pub record RightlyCounted (text : List ℕ) (said : List Line) : Type 0 where
   pub lines : List (List ℕ)
   pub cut : Lines text lines
   pub spelled : SpellAll lines said
@@ -41,6 +43,6 @@ pub record Counted (text : List ℕ) (said : List Line) : Type 0 where
 pub record DifferInRepeats (text other : List ℕ) : Type 0 where
   pub said : List Line
   pub other-said : List Line
-  pub text-counted : Counted text said
-  pub other-counted : Counted other other-said
+  pub text-counted : RightlyCounted text said
+  pub other-counted : RightlyCounted other other-said
   pub only : OnlyRepeats said other-said

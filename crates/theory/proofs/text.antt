@@ -1,5 +1,6 @@
 -- Edge texts and their reader.
 pub mod EdgeText
+pub mod EdgeTextBothDirections
 pub mod EdgeTextCuts
 pub mod EdgeTextDrawn
 pub mod EdgeTextFaults

@@ -12,7 +12,7 @@ use lib.Dec.{eqb}
 use borrow.Author.Tests.{eq-eqb}
 use Rattle.model.specs.Fault.{Fault, numbered, NonZero, FirstFault, NoFault}
 use Rattle.model.specs.Calls.{refuse, orElse, over}
-use Rattle.theory.proofs.basics.Tests.{Test, test-map, test-or, test-lt}
+use Rattle.theory.proofs.basics.Tests.{Test, test-map, test-or, test-lt, or-second}
 use Rattle.theory.proofs.basics.Refusals.{else-none, else-found}
 
 -- the number is determined by what the faults say
@@ -42,7 +42,7 @@ first-none fs k r a = (λ z. there fs k r a z, λ n. none-first fs k n a)
     there (f ∷ fs) k r (inr a) z = (a .0, there fs k (r .1) (a .1) z)
 
 -- whether some fault of the list has this number
-abbrev hasNumber : ℕ → List Fault → Bool
+abbrev pub hasNumber : ℕ → List Fault → Bool
 hasNumber k [] = false
 hasNumber k (f ∷ fs) = eqb k (f .number) || hasNumber k fs
 
@@ -51,11 +51,7 @@ pub never-first : (fs : List Fault) (k : ℕ) → k ≢ 0 → hasNumber k fs ≡
 unfolding FirstFault
 never-first [] k h e a = h a
 never-first (f ∷ fs) k h e (inl a) = false≢true (sym e ∙ ap (λ (b : Bool). b || hasNumber k fs) (eq-eqb k (f .number) (a .1)))
-never-first (f ∷ fs) k h e (inr a) = never-first fs k h (or-false (eqb k (f .number)) (hasNumber k fs) e) (a .1)
-  where
-    or-false : (a b : Bool) → (a || b) ≡ false → b ≡ false
-    or-false true b e = absurd (false≢true (sym e))
-    or-false false b e = e
+never-first (f ∷ fs) k h e (inr a) = never-first fs k h (or-second (eqb k (f .number)) (hasNumber k fs) e) (a .1)
 
 -- two lists of faults, one after the other: the later ones count where none of the earlier holds
 pub first-else : (fs gs : List Fault) (j k : ℕ) → NonZero fs → FirstFault fs j → (NoFault fs → FirstFault gs k) → FirstFault (fs ++ gs) (orElse j k)

@@ -35,7 +35,7 @@ query-no zero q d = absurd (d refl)
 query-no (suc k) q d = refl
 
 -- refusals 6 to 8
-settings-first : (s : Settings) → FirstFault (settingsFaults s) (refuseSettings s)
+pub settings-first : (s : Settings) → FirstFault (settingsFaults s) (refuseSettings s)
 unfolding refuseSettings
 settings-first s =
     refuse-first 6 _ _ _ (test-lt 2 (s .notion)) (λ h6.

@@ -17,6 +17,8 @@ use Rattle.model.specs.Walk.{Position, fresh, records, fullSets, fullList}
 use Rattle.model.specs.Listing.{recordOf, rules}
 use Rattle.model.specs.Calls.{refuseTable, refuseSettings, PageReply}
 use Rattle.model.specs.Demand.{allSteps, allGroups, SomeFinished, Demand3}
+use Rattle.model.specs.Fault.{FirstFault}
+use Rattle.model.specs.Faults.{settingsFaults}
 use Rattle.model.specs.Text.{numberOf, TextReply}
 use Rattle.model.specs.Program.{Words, wrong, chosen, Verdict, refusal, listing, bounded, three, settingsOfWords, groupLines, held, endLine, refusedLine, reading, byReading, byWords, programVerdict, PrintsAt, Prints}
 use Rattle.theory.specs.Replies.{Chain}
@@ -27,61 +29,74 @@ use Rattle.theory.proofs.calls.TableFaults.{table-simple}
 use Rattle.theory.proofs.calls.Pages.{chain-demand}
 use Rattle.theory.proofs.walk.Lawful.{lawful}
 use Rattle.theory.proofs.program.Printed.{list-printed, lines-append, pages-printed, records-printed}
+use Rattle.theory.proofs.calls.Fault.{never-first}
+use Rattle.theory.proofs.calls.Faults.{settings-first}
 use Rattle.theory.proofs.text.EdgeTextGraph.{read-table-accepted}
+use Rattle.theory.proofs.text.EdgeTextRepeats.{never-38}
 
 -- ---- refusals
 
--- the settings that words give pass, and a refusal has a number
+-- a refusal has a number, which is not 38
+abbrev Told : ℕ → Type 0
+Told k = (0 < k) × (k ≢ 38)
+
+-- the settings that words give pass
 abbrev WordsPassed : Words → Type 0
-WordsPassed (wrong k) = 0 < k
+WordsPassed (wrong k) = Told k
 WordsPassed (chosen s) = refuseSettings s ≡ 0
 
 bounded-passed : (k : ℕ) (s : Settings) → refuseSettings s ≡ k → WordsPassed (bounded k s)
 unfolding bounded
 bounded-passed zero s e = e
-bounded-passed (suc k) s e = omega arith
+bounded-passed (suc k) s e =
+    (omega arith, λ z. never-first (settingsFaults s) 38 (λ q. omega arith) refl (subst (FirstFault (settingsFaults s)) (e ∙ z) (settings-first s)))
 
 three-passed : (a b c : Option ℕ) → WordsPassed (three a b c)
 unfolding three
-three-passed none b c = omega arith
-three-passed (some x) none c = omega arith
-three-passed (some x) (some y) none = omega arith
+three-passed none b c = (omega arith, omega arith)
+three-passed (some x) none c = (omega arith, omega arith)
+three-passed (some x) (some y) none = (omega arith, omega arith)
 three-passed (some x) (some y) (some z) = bounded-passed _ _ refl
 
 words-passed : (words : List (List ℕ)) → WordsPassed (settingsOfWords words)
 unfolding settingsOfWords
-words-passed [] = omega arith
-words-passed (a ∷ []) = omega arith
-words-passed (a ∷ b ∷ []) = omega arith
+words-passed [] = (omega arith, omega arith)
+words-passed (a ∷ []) = (omega arith, omega arith)
+words-passed (a ∷ b ∷ []) = (omega arith, omega arith)
 words-passed (a ∷ b ∷ c ∷ []) = three-passed (numberOf a) (numberOf b) (numberOf c)
-words-passed (a ∷ b ∷ c ∷ d ∷ ds) = omega arith
+words-passed (a ∷ b ∷ c ∷ d ∷ ds) = (omega arith, omega arith)
 
--- what is listed has settings and a table without fault, and a refusal has a number
+-- what is listed has settings and a table without fault
 abbrev pub Answerable : Verdict → Type 0
-Answerable (refusal k line) = 0 < k
+Answerable (refusal k line) = Told k
 Answerable (listing s n t) = (refuseSettings s ≡ 0) × (refuseTable n t ≡ 0)
 
-reading-listable : (k : ℕ) (s : Settings) (r : TextReply) → refuseSettings s ≡ 0
+reading-listable : (k : ℕ) (s : Settings) (r : TextReply) → refuseSettings s ≡ 0 → k ≢ 38
     → (k ≡ 0 → refuseTable (r .vertices) (take (r .vertices * r .vertices) (r .slice)) ≡ 0) → Answerable (byReading k s r)
 unfolding byReading
-reading-listable zero s r h f = (h, f refl)
-reading-listable (suc k) s r h f = omega arith
+reading-listable zero s r h d f = (h, f refl)
+reading-listable (suc k) s r h d f = (omega arith, d)
 
 words-listable : (w : Words) (text : List ℕ) → WordsPassed w → Answerable (byWords w text)
 unfolding byWords reading
 words-listable (wrong k) text h = h
 words-listable (chosen s) text h =
-    go (ltb 65536 (length text)) (reading-listable (reading text .refused) s (reading text) h (read-table-accepted text (replicate 65536 0)))
+    go (ltb 65536 (length text))
+    (reading-listable (reading text .refused) s (reading text) h (never-38 text (replicate 65536 0)) (read-table-accepted text (replicate 65536 0)))
   where
     go : (b : Bool) → Answerable (byReading (reading text .refused) s (reading text))
         → Answerable (cond b (refusal 41 0) (byReading (reading text .refused) s (reading text)))
-    go true l = omega arith
+    go true l = (omega arith, omega arith)
     go false l = l
 
 -- so for any words and text
 pub verdict-listable : (words : List (List ℕ)) (text : List ℕ) → Answerable (programVerdict words text)
 unfolding programVerdict
 verdict-listable words text = words-listable (settingsOfWords words) text (words-passed words)
+
+-- the program never refuses with 38 (document 02, C-11)
+pub program-never-38 : (words : List (List ℕ)) (text : List ℕ) (line : ℕ) → programVerdict words text ≡ refusal 38 line → ⊥
+program-never-38 words text line e = subst Answerable e (verdict-listable words text) .1 refl
 
 -- a refusal prints only its line
 pub refusal-prints : (words : List (List ℕ)) (text : List ℕ) (k line : ℕ) → programVerdict words text ≡ refusal k line → Prints words text (refusedLine k line)

@@ -135,7 +135,7 @@ module _ (room : ℕ) (xs : List Line) (l : List ℕ) where
           c = letter-first 101 l e
 
       -- it spells no other pair
-      pub same-pair : (P : ℕ → ℕ → Type 0) (a b : ℕ) → Spells l (edge a b) → P a b → P u v
+      same-pair : (P : ℕ → ℕ → Type 0) (a b : ℕ) → Spells l (edge a b) → P a b → P u v
       same-pair P a b t h =
           let q = says-one l (edge a b) (edge u v) t s in
           subst₂ P (edge-first a b u v q) (edge-second a b u v q) h

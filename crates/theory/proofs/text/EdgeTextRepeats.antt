@@ -3,7 +3,7 @@
 use Prim.Native.Nat.{ℕ, suc, _*_, _-_, _≤_}
 use mathlib.Core.Path.{_≡_, refl, sym, ap, ap₂, _∙_, subst, subst₂}
 use mathlib.Core.Logic.{_↔_, _≢_, inl, inr, ⊎-elim}
-use mathlib.Core.Bool.{Bool, true}
+use mathlib.Core.Bool.{Bool, true, false}
 use mathlib.Core.List.{List, [], _∷_, _++_, append-nil, List·Memᴰ, List·Memᴰ·head, List·Memᴰ·tail, List·Memᴰ·not-nil, List·Memᴰ·cases-cons}
 use native.Mathlib.Omega.{arith}
 use lib.ListN.{length}
@@ -11,9 +11,9 @@ use borrow.Author.Tests.{ne-eqb}
 use Rattle.model.specs.Text.{Reading, next, fault, eLine, readText}
 use Rattle.model.specs.Fault.{FirstFault}
 use Rattle.model.specs.EdgeText.{Lines, Line, comment, problem, edge, SpellAll, edges, HasPair, Ends, Drawn, Table, EdgeText, Passed, lineFaults, endFaults, faultsAt, FirstFaultyLine, Miscounted}
-use Rattle.model.specs.Repeats.{butM, NoProblem, PutIn, ended, kept, repeated, OnlyRepeats, DifferInRepeats}
+use Rattle.model.specs.Repeats.{butM, NoProblem, PutIn, none, kept, noted, repeated, OnlyRepeats, DifferInRepeats}
 use Rattle.theory.proofs.basics.Tests.{fails}
-use Rattle.theory.proofs.calls.Fault.{never-first}
+use Rattle.theory.proofs.calls.Fault.{hasNumber, never-first}
 use Rattle.theory.proofs.text.EdgeTextLines.{lines-are}
 use Rattle.theory.proofs.text.EdgeTextSpelling.{says-one}
 use Rattle.theory.proofs.text.EdgeTextDrawn.{comment-not-problem, comment-not-edge, edge-not-problem, problem-first, edge-first, edge-second, Comments, comments-none, drawn-in}
@@ -65,20 +65,22 @@ problem-of x y n m e same = go y (ap butM e ∙ same)
 module _ (all : List Line) where
   -- every e line is kept
   edge-kept : {xs ys : List Line} → PutIn all xs ys → (u v : ℕ) → List·Memᴰ (edge u v) xs → List·Memᴰ (edge u v) ys
-  edge-kept ended u v m = m
+  edge-kept none u v m = m
   edge-kept (kept {x} {y} e p) u v m =
       ⊎-elim (λ q. List·Memᴰ·head (edge-of x y u v q e)) (λ q. List·Memᴰ·tail (edge-kept p u v q)) (List·Memᴰ·cases-cons m)
+  edge-kept (noted p) u v m = List·Memᴰ·tail (edge-kept p u v m)
   edge-kept (repeated h f p) u v m = List·Memᴰ·tail (edge-kept p u v m)
 
   -- and what was put in brings no new pair
   edge-stood : {xs ys : List Line} → PutIn all xs ys → ((u v : ℕ) → List·Memᴰ (edge u v) xs → List·Memᴰ (edge u v) all) → (u v : ℕ)
       → List·Memᴰ (edge u v) ys → HasPair all u v
-  edge-stood ended sub a b m = absurd (List·Memᴰ·not-nil m)
+  edge-stood none sub a b m = absurd (List·Memᴰ·not-nil m)
   edge-stood (kept {x} {y} e p) sub a b m =
       ⊎-elim
       (λ q. inl (sub a b (List·Memᴰ·head (edge-of y x a b q (sym e)))))
       (edge-stood p (λ c d i. sub c d (List·Memᴰ·tail i)) a b)
       (List·Memᴰ·cases-cons m)
+  edge-stood (noted p) sub a b m = ⊎-elim (λ q. absurd (comment-not-edge a b q)) (edge-stood p sub a b) (List·Memᴰ·cases-cons m)
   edge-stood (repeated {u} {v} h f p) sub a b m =
       ⊎-elim
       (λ q. subst₂ (HasPair all) (sym (edge-first a b u v q)) (sym (edge-second a b u v q)) h)
@@ -87,21 +89,23 @@ module _ (all : List Line) where
 
   -- the p lines are the same, but for M
   passed-kept : {xs ys : List Line} → PutIn all xs ys → (n : ℕ) → Passed xs n → Passed ys n
-  passed-kept ended n h = h
+  passed-kept none n h = h
   passed-kept (kept {x} {y} e p) n h =
       ⊎-elim
       (λ q. let r = problem-of x y n (h .0) q e in (r .0, List·Memᴰ·head (r .1)))
       (λ q. let r = passed-kept p n (h .0, q) in (r .0, List·Memᴰ·tail (r .1)))
       (List·Memᴰ·cases-cons (h .1))
+  passed-kept (noted p) n h = let r = passed-kept p n h in (r .0, List·Memᴰ·tail (r .1))
   passed-kept (repeated g f p) n h = let r = passed-kept p n h in (r .0, List·Memᴰ·tail (r .1))
 
   passed-stood : {xs ys : List Line} → PutIn all xs ys → (n : ℕ) → Passed ys n → Passed xs n
-  passed-stood ended n h = h
+  passed-stood none n h = h
   passed-stood (kept {x} {y} e p) n h =
       ⊎-elim
       (λ q. let r = problem-of y x n (h .0) q (sym e) in (r .0, List·Memᴰ·head (r .1)))
       (λ q. let r = passed-stood p n (h .0, q) in (r .0, List·Memᴰ·tail (r .1)))
       (List·Memᴰ·cases-cons (h .1))
+  passed-stood (noted p) n h = ⊎-elim (λ q. absurd (comment-not-problem n (h .0) q)) (λ q. passed-stood p n (h .0, q)) (List·Memᴰ·cases-cons (h .1))
   passed-stood (repeated {u} {v} g f p) n h =
       ⊎-elim (λ q. absurd (edge-not-problem u v n (h .0) (sym q))) (λ q. passed-stood p n (h .0, q)) (List·Memᴰ·cases-cons (h .1))
 
@@ -178,15 +182,17 @@ begins-same (edge u v) y xs ys e f g b = absurd b
 
 module _ (all : List Line) where
   begins-kept : {xs ys : List Line} → PutIn all xs ys → Begins xs → Begins ys
-  begins-kept ended b = b
+  begins-kept none b = b
   begins-kept (kept {x} {y} {xs} {ys} e p) b =
       begins-same x y xs ys e (begins-kept p) (λ f n m i. let r = passed-stood all p n (m, i) in f n (r .0) (r .1)) b
+  begins-kept (noted p) b = begins-kept p b
   begins-kept (repeated {u} {v} {xs} h f p) b = begins-problem xs b f
 
   begins-stood : {xs ys : List Line} → PutIn all xs ys → Begins ys → Begins xs
-  begins-stood ended b = b
+  begins-stood none b = b
   begins-stood (kept {x} {y} {xs} {ys} e p) b =
       begins-same y x ys xs (sym e) (begins-stood p) (λ f n m i. let r = passed-kept all p n (m, i) in f n (r .0) (r .1)) b
+  begins-stood (noted p) b = begins-stood p b
   begins-stood (repeated h f p) b = absurd b
 
 -- ---- texts that differ only in repeated e lines
@@ -216,16 +222,7 @@ module _ (xs ys : List Line) (r : OnlyRepeats xs ys) where
   only-begins : Begins xs → Begins ys
   only-begins b = begins-kept (r .shared) (r .second) (begins-stood (r .shared) (r .first) b)
 
--- as do one edge's lines in one direction and in both
-pub both-directions : OnlyRepeats (problem 3 1 ∷ edge 1 2 ∷ []) (problem 3 2 ∷ edge 1 2 ∷ edge 2 1 ∷ [])
-both-directions =
-    record {
-      shared = problem 3 1 ∷ edge 1 2 ∷ [];
-      first = kept refl (kept refl ended);
-      second = kept refl (kept refl (repeated (inr (List·Memᴰ·tail (List·Memᴰ·head refl))) (λ n m i. List·Memᴰ·not-nil i) ended));
-    }
-
--- what lines spell
+-- lines spell one list of lines only
 spelled-one : (ls : List (List ℕ)) (xs ys : List Line) → SpellAll ls xs → SpellAll ls ys → xs ≡ ys
 spelled-one [] [] [] s t = refl
 spelled-one [] [] (y ∷ ys) s t = absurd t
@@ -235,29 +232,18 @@ spelled-one (l ∷ ls) (x ∷ xs) [] s t = absurd t
 spelled-one (l ∷ ls) (x ∷ xs) (y ∷ ys) s t =
     ap₂ {C = List Line} (λ (z : Line) (zs : List Line). z ∷ zs) (says-one l x y (s .0) (t .0)) (spelled-one ls xs ys (s .1) (t .1))
 
--- one may stand for the other
-pub repeats-swap : (text other : List ℕ) → DifferInRepeats text other → DifferInRepeats other text
-repeats-swap text other d =
-    record {
-      said = d .other-said;
-      other-said = d .said;
-      text-counted = d .other-counted;
-      other-counted = d .text-counted;
-      only = only-swap (d .said) (d .other-said) (d .only);
-    }
-
--- where one is the text of a graph, the other is a text of the same graph
-pub repeats-graph : (room : ℕ) (text other : List ℕ) → DifferInRepeats text other → (n m : ℕ) (t : List ℕ) → EdgeText room text n m t
-    → (k : ℕ) × EdgeText room other n k t
-repeats-graph room text other d n m t g = (
+-- where one is the text of a graph, the other is a text of the same graph, with any slice that can hold its table
+pub repeats-graph : (room other-room : ℕ) (text other : List ℕ) → DifferInRepeats text other → (n m : ℕ) (t : List ℕ) → EdgeText room text n m t
+    → n * n ≤ other-room → (k : ℕ) × EdgeText other-room other n k t
+repeats-graph room other-room text other d n m t g fits = (
   passed .0,
   record {
     lines = d .other-counted .lines;
     said = d .other-said;
     cut = d .other-counted .cut;
     spelled = d .other-counted .spelled;
-    drawn = begins-drawn room n (passed .0) (d .other-said) (only-begins (d .said) (d .other-said) (d .only) (drawn-begins room n m (d .said) drawn))
-        (passed .1) (drawn .small) (drawn .fits) (λ u v i. pair-ends n (d .said) (drawn .ends) u v (back u v (inl i)));
+    drawn = begins-drawn other-room n (passed .0) (d .other-said) (only-begins (d .said) (d .other-said) (d .only) (drawn-begins room n m (d .said) drawn))
+        (passed .1) (drawn .small) fits (λ u v i. pair-ends n (d .said) (drawn .ends) u v (back u v (inl i)));
     stated = d .other-counted .stated n (passed .0) (passed .1);
     table = record {
       size = table .size;
@@ -329,13 +315,18 @@ miscounted-iff text slice i = (
           line = h .line;
         }
 
--- 38 is answered to no text
-pub never-38 : (text slice : List ℕ) → readText text slice .refused ≢ 38
-never-38 text slice e = go (refused-iff text slice 38 (readText text slice .line) .0 ((e, refl), λ z. omega arith))
+-- a number other than 0 that no fault has is answered to no text
+pub never-told : (k : ℕ) → k ≢ 0 → ((room : ℕ) (xs : List Line) (l : List ℕ) → hasNumber k (lineFaults room xs l) ≡ false)
+    → ((xs : List Line) → hasNumber k (endFaults xs) ≡ false) → (text slice : List ℕ) → readText text slice .refused ≢ k
+never-told k some in-lines at-end text slice e = go (refused-iff text slice k (readText text slice .line) .0 ((e, refl), some))
   where
-    go : (said : List Line) × FirstFaultyLine (length slice) text 38 (readText text slice .line) said → ⊥
-    go (said, f) = none (f .rest) (f .fault)
+    go : (said : List Line) × FirstFaultyLine (length slice) text k (readText text slice .line) said → ⊥
+    go (said, f) = nowhere (f .rest) (f .fault)
       where
-        none : (rest : List (List ℕ)) → FirstFault (faultsAt (length slice) said rest) 38 → ⊥
-        none [] = never-first (endFaults said) 38 (λ z. omega arith) refl
-        none (l ∷ ls) = never-first (lineFaults (length slice) said l) 38 (λ z. omega arith) refl
+        nowhere : (rest : List (List ℕ)) → FirstFault (faultsAt (length slice) said rest) k → ⊥
+        nowhere [] = never-first (endFaults said) k some (at-end said)
+        nowhere (l ∷ ls) = never-first (lineFaults (length slice) said l) k some (in-lines (length slice) said l)
+
+-- so 38 is answered to none
+pub never-38 : (text slice : List ℕ) → readText text slice .refused ≢ 38
+never-38 = never-told 38 (λ z. omega arith) (λ room xs l. refl) (λ xs. refl)

@@ -103,7 +103,7 @@ joins-last xs x u v (inl m) = ⊎-elim (λ a. inl (inl a)) (λ a. inr (inl (List
 joins-last xs x u v (inr m) = ⊎-elim (λ a. inl (inr a)) (λ a. inr (inr (List·Memᴰ·eq-of-singleton a))) (List·Memᴰ·append-cases xs m)
 
 -- one more line of a pair that stood before joins no other
-pub joins-again : (xs : List Line) (u v : ℕ) → HasPair xs u v → (c d : ℕ) → HasPair (xs ++ (edge u v ∷ [])) c d → HasPair xs c d
+joins-again : (xs : List Line) (u v : ℕ) → HasPair xs u v → (c d : ℕ) → HasPair (xs ++ (edge u v ∷ [])) c d → HasPair xs c d
 joins-again xs u v h c d j = go (joins-last xs (edge u v) c d j)
   where
     go : HasPair xs c d ⊎ (edge c d ≡ edge u v) ⊎ (edge d c ≡ edge u v) → HasPair xs c d
