@@ -126,7 +126,7 @@ Never38Holds Post = (k : CompiledRead Post) → Never38 (k .answer)
 abbrev pub ComparesLinesHolds : Out 2 reader-kinds.ps reader-kinds.r → Type 0
 ComparesLinesHolds Post = (k : CompiledRead Post) → ComparesLines (textOf k) (tableLent k) (k .answer)
 
--- and texts that differ only in repeated e lines, each with its own right M, give the same table.
+-- and texts that differ only in repeated e lines, each with its own right M, give the same table, where one is read and the other slice can hold it.
 abbrev pub RepeatsHold : Out 2 reader-kinds.ps reader-kinds.r → Type 0
 RepeatsHold Post =
     (k l : CompiledRead Post) → DifferInRepeats (textOf k) (textOf l) → k .answer .refusal ≡ 0

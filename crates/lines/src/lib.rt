@@ -24,7 +24,7 @@ pub enum Outcome {
     Next(Said),
 }
 
-// The first line of a text: an e line in form that byte 10 ends, with its U, V and length, or another one.
+// The first line of a text: an e line in form that byte 10 ends, with its U, V and length. `Other` says nothing of the line.
 enum First {
     Edge(usize, usize, usize),
     Other,
@@ -196,7 +196,7 @@ fn read_line(line: &[u8], table: &mut [u8], s: Said) -> Outcome
     }
 }
 
-// Whether the first line is an e line in form: its end is met as its numbers are read, so that each byte is looked at once.
+// An e line in form, if one comes first: its end is met as its numbers are read, so that nothing is searched for.
 fn first_edge(text: &[u8]) -> First
     ensures { λ r. ⌜ EdgeFirst (now (text .entry)) r ⌝ }
 {
@@ -204,17 +204,17 @@ fn first_edge(text: &[u8]) -> First
         return First::Other;
     }
     let u = number::ended(&text[2..], b' ');
-    let digits = u.count;
-    if digits == 0 {
+    let u_digits = u.count;
+    if u_digits == 0 {
         return First::Other;
     }
-    let at = digits + 3;
+    let at = u_digits + 3;
     let v = number::ended(&text[at..], b'\n');
-    let more = v.count;
-    if more == 0 {
+    let v_digits = v.count;
+    if v_digits == 0 {
         return First::Other;
     }
-    First::Edge(u.value, v.value, at + more)
+    First::Edge(u.value, v.value, at + v_digits)
 }
 
 // Reads the first line of a text. Most lines are e lines in form, and only another one is searched for its end.

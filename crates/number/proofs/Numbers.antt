@@ -1,7 +1,7 @@
 -- Digits and the numbers they make. Assumes nothing.
 use Prim.Native.Nat.{ℕ, zero, suc, _+_, _*_, _-_, _≤_, _<_, _^_}
-use mathlib.Core.Path.{_≡_, refl, sym, ap, subst, _∙_}
-use mathlib.Core.Bool.{Bool, true, false, _&&_, and-false, or-true}
+use mathlib.Core.Path.{_≡_, sym, ap, subst, _∙_}
+use mathlib.Core.Bool.{true, false, _&&_, and-false, or-true}
 use mathlib.Core.List.{List, [], _∷_, _++_}
 use mathlib.Core.Option.{Option, none, some}
 use native.Mathlib.Nat.{zero-add, pow-suc, pow-le-pow-right, le-trans}
@@ -12,6 +12,7 @@ use lib.Seq.{take-suc, drop-cons}
 use lib.Dec.{leb, eqb}
 use borrow.Author.Tests.{le-leb, lt-leb, ne-eqb}
 use Rattle.model.specs.Text.{digits, decimal, numberOf}
+use Rattle.theory.proofs.program.Numeral.{decimal-last, digits-last}
 use Rattle.number.specs.declared.Field.{Field}
 use Rattle.number.specs.declared.Pair.{Pair}
 use Rattle.number.specs.Field.{FirstDigit, NumberRead, PairRead}
@@ -50,27 +51,16 @@ module _ (f : List ℕ) (h : FirstDigit f) where
   unfolding decimal
   first-value = ap (decimal 0) (take-suc f 0 0 (h .some)) ∙ zero-add (getD f 0 0 - 48)
 
--- one more keeps them digits
-digits-more : (x : ℕ) (l : List ℕ) → 48 ≤ x → x ≤ 57 → digits (l ++ (x ∷ [])) ≡ digits l
-unfolding digits
-digits-more x [] a b = rw (le-leb 48 x a, le-leb x 57 b)
-digits-more x (y ∷ l) a b = ap (λ (t : Bool). leb 48 y && leb y 57 && t) (digits-more x l a b)
-
--- and adds to ten times their value
-decimal-more : (v x : ℕ) (l : List ℕ) → decimal v (l ++ (x ∷ [])) ≡ decimal v l * 10 + (x - 48)
-unfolding decimal
-decimal-more v x [] = refl
-decimal-more v x (y ∷ l) = decimal-more (v * 10 + (y - 48)) x l
-
+-- one more keeps them digits, and adds to ten times their value
 module _ (f : List ℕ) (i : ℕ) (lt : i < length f) where
   one-more : take (i + 1) f ≡ take i f ++ (getD f i 0 ∷ [])
   one-more = ap (λ (k : ℕ). take k f) (add-one i) ∙ take-suc f i 0 lt
 
   pub digit-more : 48 ≤ getD f i 0 → getD f i 0 ≤ 57 → digits (take (i + 1) f) ≡ digits (take i f)
-  digit-more a b = ap digits one-more ∙ digits-more (getD f i 0) (take i f) a b
+  digit-more a b = ap digits one-more ∙ digits-last (take i f) (getD f i 0) a b
 
   pub value-more : decimal 0 (take (i + 1) f) ≡ decimal 0 (take i f) * 10 + (getD f i 0 - 48)
-  value-more = ap (decimal 0) one-more ∙ decimal-more 0 (getD f i 0) (take i f)
+  value-more = ap (decimal 0) one-more ∙ decimal-last 0 (take i f) (getD f i 0)
 
 -- ---- the size of a number
 

@@ -26,7 +26,7 @@ pub record FirstDigit (s : List ℕ) : Type 0 where
   pub from : 48 ≤ getD s 0 0
   pub to : getD s 0 0 ≤ 57
 
--- digits and their value: 1 to 6, and fewer than 6 only where no further one follows
+-- 1 to 6 digits and their value; where they are fewer than 6 and bytes are left, not all bytes are digits
 pub record DigitsLead (s : List ℕ) (r : Lead) : Type 0 where
   pub some : 0 < r .count
   pub six : r .count ≤ 6

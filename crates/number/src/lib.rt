@@ -70,7 +70,7 @@ fn leading(bytes: &[u8]) -> Lead
     }
 }
 
-// The number that some bytes start with and that byte b ends, where they do.
+// The number that some bytes start with and that byte b ends. A count of 0 says nothing of them.
 pub fn ended(bytes: &[u8], b: u8) -> Lead
     ensures { λ r. ⌜ (0 < r .count → NumberEnds (now (bytes .entry)) b r) ⌝ }
 {

@@ -13,7 +13,7 @@ use lib.Dec.{leb, ltb, eqb}
 use borrow.Author.Tests.{ltb-true, ltb-false, le-leb}
 use Rattle.model.specs.Text.{digits, decimal, numberOf}
 use Rattle.model.specs.Program.{digitsWithin, numeral}
-use Rattle.theory.proofs.basics.Tests.{test-and, test-or, test-not, test-self, test-eq}
+use Rattle.theory.proofs.basics.Tests.{test-or, test-not, test-self, test-eq}
 
 module _ (P : ℕ → List ℕ → Type 0) (small : (k : ℕ) → k < 10 → P k ((48 + k) ∷ []))
     (long : (k : ℕ) (l : List ℕ) → 10 ≤ k → P (k / 10) l → P k (l ++ ((48 + k % 10) ∷ []))) where
@@ -34,7 +34,8 @@ module _ (P : ℕ → List ℕ → Type 0) (small : (k : ℕ) → k < 10 → P k
 
 -- ---- the number of its digits
 
-decimal-last : (a : ℕ) (l : List ℕ) (d : ℕ) → decimal a (l ++ (d ∷ [])) ≡ decimal a l * 10 + (d - 48)
+-- one more digit adds to ten times the value
+pub decimal-last : (a : ℕ) (l : List ℕ) (d : ℕ) → decimal a (l ++ (d ∷ [])) ≡ decimal a l * 10 + (d - 48)
 unfolding decimal
 decimal-last a [] d = refl
 decimal-last a (b ∷ l) d = decimal-last (a * 10 + (b - 48)) l d
@@ -56,19 +57,18 @@ digits-one : (d : ℕ) → 48 ≤ d → d ≤ 57 → digits (d ∷ []) ≡ true
 unfolding digits
 digits-one d h g = rw (le-leb 48 d h, le-leb d 57 g)
 
-digits-last : (l : List ℕ) (d : ℕ) → digits l ≡ true → 48 ≤ d → d ≤ 57 → digits (l ++ (d ∷ [])) ≡ true
+-- bytes and one more digit are digits exactly where the bytes are
+pub digits-last : (l : List ℕ) (d : ℕ) → 48 ≤ d → d ≤ 57 → digits (l ++ (d ∷ [])) ≡ digits l
 unfolding digits
-digits-last [] d e h g = digits-one d h g
-digits-last (b ∷ l) d e h g =
-    let r = test-and {a = leb 48 b && leb b 57} test-self test-self .0 e in
-    test-and {a = leb 48 b && leb b 57} test-self test-self .1 (r .0, digits-last l d (r .1) h g)
+digits-last [] d h g = digits-one d h g
+digits-last (b ∷ l) d h g = ap (λ (t : Bool). leb 48 b && leb b 57 && t) (digits-last l d h g)
 
 -- its bytes are digits
 pub numeral-digits : (k : ℕ) → digits (numeral k) ≡ true
 numeral-digits =
     numeral-law (λ k l. digits l ≡ true)
     (λ k h. digits-one (48 + k) (omega arith) (omega arith))
-    (λ k l h e. digits-last l (48 + k % 10) e (omega arith) (omega arith))
+    (λ k l h e. digits-last l (48 + k % 10) (omega arith) (omega arith) ∙ e)
 
 lead : (k : ℕ) → (0 < length (numeral k)) × (getD (numeral k) 0 0 ≡ 48 → k ≡ 0)
 lead =

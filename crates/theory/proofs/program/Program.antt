@@ -40,7 +40,7 @@ use Rattle.theory.proofs.text.EdgeTextRepeats.{never-38}
 abbrev Told : ℕ → Type 0
 Told k = (0 < k) × (k ≢ 38)
 
--- the settings that words give pass
+-- the settings that words give pass, and a refusal is told so
 abbrev WordsPassed : Words → Type 0
 WordsPassed (wrong k) = Told k
 WordsPassed (chosen s) = refuseSettings s ≡ 0
@@ -66,7 +66,7 @@ words-passed (a ∷ b ∷ []) = (omega arith, omega arith)
 words-passed (a ∷ b ∷ c ∷ []) = three-passed (numberOf a) (numberOf b) (numberOf c)
 words-passed (a ∷ b ∷ c ∷ d ∷ ds) = (omega arith, omega arith)
 
--- what is listed has settings and a table without fault
+-- what is listed has settings and a table without fault, and a refusal is told so
 abbrev pub Answerable : Verdict → Type 0
 Answerable (refusal k line) = Told k
 Answerable (listing s n t) = (refuseSettings s ≡ 0) × (refuseTable n t ≡ 0)
