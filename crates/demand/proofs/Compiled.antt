@@ -1,5 +1,5 @@
--- Demands 2 and 3 and C-11 hold of the compiled functions `page::page`, `query::set_query` and `dimacs::read_text`, and of the exported ones of crate `ffi` that C
--- and Rust link. Nothing of a contract is restated: `promised` is the contract that the checker proved.
+-- Demands 2 and 3 and C-11 hold of the compiled functions `page::page`, `query::set_query` and `dimacs::read_text`, and of the exported ones of crate
+-- `ffi` that C and Rust link. Nothing of a contract is restated: `promised` is the contract that the checker proved.
 -- Assumes nothing.
 use mathlib.Core.List.{List, [], _∷_, map}
 use borrow.Fn.Kinds.{Out}

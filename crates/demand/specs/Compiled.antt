@@ -1,5 +1,5 @@
--- What demands 2 and 3 and the request C-11 say of a compiled function, over its contract as the checker itself reads it from the function's source and proves it: `Post` is
--- that contract, of the arguments, the answer and the memory at exit.
+-- What demands 2 and 3 and the request C-11 say of a compiled function, over its contract as the checker itself reads it from the function's source
+-- and proves it: `Post` is that contract, of the arguments, the answer and the memory at exit.
 -- Assumes nothing.
 use Prim.Native.Nat.{ℕ, _*_, _≤_}
 use mathlib.Core.Path.{_≡_}
@@ -126,7 +126,8 @@ Never38Holds Post = (k : CompiledRead Post) → Never38 (k .answer)
 abbrev pub ComparesLinesHolds : Out 2 reader-kinds.ps reader-kinds.r → Type 0
 ComparesLinesHolds Post = (k : CompiledRead Post) → ComparesLines (textOf k) (tableLent k) (k .answer)
 
--- and texts that differ only in repeated e lines, each with its own right M, give the same table, where one is read and the other slice can hold it.
+-- and texts that differ only in repeated e lines, each with its own right M, give the same table, where one is read and the slice of the other can
+-- hold it.
 abbrev pub RepeatsHold : Out 2 reader-kinds.ps reader-kinds.r → Type 0
 RepeatsHold Post =
     (k l : CompiledRead Post) → DifferInRepeats (textOf k) (textOf l) → k .answer .refusal ≡ 0

@@ -91,6 +91,10 @@ edges (edge u v ∷ xs) = suc (edges xs)
 abbrev pub HasPair : List Line → ℕ → ℕ → Type 0
 HasPair xs u v = List·Memᴰ (edge u v) xs ⊎ List·Memᴰ (edge v u) xs
 
+-- no line states N and M
+abbrev pub NoProblem : List Line → Type 0
+NoProblem xs = (n m : ℕ) → List·Memᴰ (problem n m) xs → ⊥
+
 -- "U and V are from 1 to N", and differ
 pub record Ends (n u v : ℕ) : Type 0 where
   pub u-from : 1 ≤ u
@@ -106,7 +110,7 @@ pub record Drawn (room n m : ℕ) (xs : List Line) : Type 0 where
   pub after : List Line
   pub lines : xs ≡ comments ++ (problem n m ∷ after)
   pub only-comments : (x : Line) → List·Memᴰ x comments → x ≡ comment
-  pub no-second : (a b : ℕ) → List·Memᴰ (problem a b) after → ⊥
+  pub no-second : NoProblem after
   pub small : n ≤ 1024
   pub fits : n * n ≤ room
   pub ends : (u v : ℕ) → List·Memᴰ (edge u v) xs → Ends n u v

@@ -4,17 +4,13 @@
 use Prim.Native.Nat.{ℕ}
 use mathlib.Core.Path.{_≡_}
 use mathlib.Core.List.{List, [], _∷_, List·Memᴰ}
-use Rattle.model.specs.EdgeText.{Lines, Line, comment, problem, edge, SpellAll, edges, HasPair}
+use Rattle.model.specs.EdgeText.{Lines, Line, comment, problem, edge, SpellAll, edges, HasPair, NoProblem}
 
 -- what a line says, but for M
 abbrev pub butM : Line → Line
 butM comment = comment
 butM (problem n m) = problem n 0
 butM (edge u v) = edge u v
-
--- no line states N and M
-abbrev pub NoProblem : List Line → Type 0
-NoProblem xs = (n m : ℕ) → List·Memᴰ (problem n m) xs → ⊥
 
 -- ys are the lines xs, M aside, with comments put in and e lines whose pair the lines `all` have, in either direction
 pub data PutIn (all : List Line) : List Line → List Line → Type 0 where

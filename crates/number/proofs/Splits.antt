@@ -58,5 +58,6 @@ fields-at {s} {r} f lt = ap fieldsOf (part-hit s 32 r lt (f .hit lt)) ∙ field-
 pub part-tail : (s : List ℕ) (from : ℕ) → take (length s - from) (drop from s) ≡ drop from s
 part-tail s from = take-all (length s - from) (drop from s) (simp length-drop (omega arith))
 
+-- and its length
 pub part-length : (s : List ℕ) (from : ℕ) → length (take (length s - from) (drop from s)) ≡ length s - from
 part-length s from = ap length (part-tail s from) ∙ length-drop from s

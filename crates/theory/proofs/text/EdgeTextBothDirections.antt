@@ -6,8 +6,8 @@ use mathlib.Core.Logic.{inl, inr, ⊎-elim}
 use mathlib.Core.List.{List, [], _∷_, List·Memᴰ, List·Memᴰ·head, List·Memᴰ·tail, List·Memᴰ·not-nil, List·Memᴰ·cases-cons, List·Memᴰ·eq-of-singleton}
 use native.Mathlib.Omega.{arith}
 use Rattle.model.specs.Text.{linesOf}
-use Rattle.model.specs.EdgeText.{Number, Line, problem, edge, Spells, edges}
-use Rattle.model.specs.Repeats.{NoProblem, none, kept, repeated, DifferInRepeats}
+use Rattle.model.specs.EdgeText.{Number, Line, problem, edge, Spells, edges, NoProblem}
+use Rattle.model.specs.Repeats.{none, kept, repeated, DifferInRepeats}
 use Rattle.model.specs.Worked.{onThree, eText}
 use Rattle.theory.proofs.text.EdgeTextLines.{lines-hold}
 use Rattle.theory.proofs.text.EdgeTextDrawn.{edge-not-problem, problem-second}

@@ -10,8 +10,8 @@ use lib.ListN.{length}
 use borrow.Author.Tests.{ne-eqb}
 use Rattle.model.specs.Text.{Reading, next, fault, eLine, readText}
 use Rattle.model.specs.Fault.{FirstFault}
-use Rattle.model.specs.EdgeText.{Lines, Line, comment, problem, edge, SpellAll, edges, HasPair, Ends, Drawn, Table, EdgeText, Passed, lineFaults, endFaults, faultsAt, FirstFaultyLine, Miscounted}
-use Rattle.model.specs.Repeats.{butM, NoProblem, PutIn, none, kept, noted, repeated, OnlyRepeats, DifferInRepeats}
+use Rattle.model.specs.EdgeText.{Lines, Line, comment, problem, edge, SpellAll, edges, HasPair, NoProblem, Ends, Drawn, Table, EdgeText, Passed, lineFaults, endFaults, faultsAt, FirstFaultyLine, Miscounted}
+use Rattle.model.specs.Repeats.{butM, PutIn, none, kept, noted, repeated, OnlyRepeats, DifferInRepeats}
 use Rattle.theory.proofs.basics.Tests.{fails}
 use Rattle.theory.proofs.calls.Fault.{hasNumber, never-first}
 use Rattle.theory.proofs.text.EdgeTextLines.{lines-are}
