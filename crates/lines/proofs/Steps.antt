@@ -8,7 +8,8 @@ use native.Mathlib.Omega.{arith}
 use lib.ListN.{length, drop, set, replicate, length-replicate}
 use lib.Seq.{take-set-lt, drop-set-lt, take-at, drop-at}
 use borrow.Author.Tests.{le-ltb}
-use Rattle.model.specs.Text.{Step, bad, next, eLine, pLine, joinPair}
+use Rattle.model.specs.Graph.{withPair}
+use Rattle.model.specs.Text.{Step, bad, next, eLine, pLine}
 use Rattle.model.specs.EdgeText.{Ends}
 use Rattle.theory.proofs.text.EdgeTextFaults.{turned}
 use Rattle.theory.proofs.text.EdgeTextStep.{joinedBy}
@@ -41,7 +42,7 @@ pub joined : {s : Said} {t : List ℕ} {u v : ℕ} → Ends (s .vertices) u v �
     → next (joinedBy (readingOf s t) u v) ≡ eLine (readingOf s t) u v →
     LineRead (eLine (readingOf s t) u v) s t (set (set t ((u - 1) * s .vertices + (v - 1)) 1) ((v - 1) * s .vertices + (u - 1)) 1)
     (Next (record { passed = true; vertices = s .vertices; stated = s .stated; edges = s .edges + 1 }))
-unfolding joinPair
+unfolding withPair
 joined {s} {t} {u} {v} h fit e =
     let area = s .vertices * s .vertices in
     let a = (u - 1) * s .vertices + (v - 1) in

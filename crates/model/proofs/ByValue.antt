@@ -9,9 +9,9 @@ use Rattle.model.specs.Graph.{byTable}
 use Rattle.model.specs.Compute.{compute}
 use Rattle.model.specs.Walk.{fresh, page}
 use Rattle.model.specs.Listing.{rules}
-use Rattle.model.specs.Calls.{replyOf, refuse, byteTable, refuseSettings, refusePage, pageCall}
+use Rattle.model.specs.Calls.{replyOf, refuse, refuseSettings, refusePage, pageCall}
 use Rattle.model.specs.Groups.{settings}
-use Rattle.model.specs.Worked.{Gives, one, unjoined, triangle, clawTable, claw, wroteNothing, Worked, Pinned}
+use Rattle.model.specs.Worked.{Gives, one, unjoined, triangle, clawTable, claw, clawDegrees, clawLent, wroteNothing, Worked, Pinned}
 
 -- what K1 to K10 leave open
 pub pinned : (x : ℕ) → Pinned x
@@ -37,6 +37,14 @@ pinned x =
       three-times = refl;
       edges-stated = refl;
       loop = refl;
+      degrees-refused = (refl, refl, refl);
+      joined = refl;
+      parted = refl;
+      joined-already = refl;
+      parted-already = refl;
+      edit-refused = (refl, refl, refl);
+      listed = refl;
+      listed-refused = refl;
     }
 
 -- what holds of both kinds, and of the three notions
@@ -98,16 +106,16 @@ unfolding compute
 k8-avg = each-kind (λ k. Gives claw (settings 1 k 1) [] 20) (refl, refl) (refl, refl)
 
 -- K9's calls are accepted. The reply is then computed under `ap`, at the number 0: rewriting the whole reply takes ten times as long
-k9-accepted : (work : ℕ) → 32 ≤ work → refusePage (byteTable 4 clawTable) (settings 2 0 2) (fresh 4) work ≡ 0
+k9-accepted : (work : ℕ) → 32 ≤ work → refusePage clawLent (settings 2 0 2) (fresh 4) work ≡ 0
 unfolding compute
 k9-accepted work h = rw (le-ltb work 32 h)
 
-k9-full : (x work : ℕ) → 32 ≤ work → pageCall 4 clawTable (settings 2 0 2) 8 (fresh 4) (x ∷ []) work ≡ wroteNothing 3 7 2 (1 ∷ 2 ∷ 2 ∷ 2 ∷ []) (x ∷ [])
+k9-full : (x work : ℕ) → 32 ≤ work → pageCall 4 clawTable clawDegrees (settings 2 0 2) 8 (fresh 4) (x ∷ []) work ≡ wroteNothing 3 7 2 (1 ∷ 2 ∷ 2 ∷ 2 ∷ []) (x ∷ [])
 unfolding compute
 k9-full x work h =
     ap (λ (k : ℕ). replyOf k (page (rules claw (settings 2 0 2)) 8 1 (fresh 4)) (fresh 4) (x ∷ [])) (k9-accepted work h)
 
-k9-spent : (x work : ℕ) → 32 ≤ work → pageCall 4 clawTable (settings 2 0 2) 7 (fresh 4) (x ∷ []) work ≡ wroteNothing 2 7 0 (1 ∷ 2 ∷ 2 ∷ 2 ∷ []) (x ∷ [])
+k9-spent : (x work : ℕ) → 32 ≤ work → pageCall 4 clawTable clawDegrees (settings 2 0 2) 7 (fresh 4) (x ∷ []) work ≡ wroteNothing 2 7 0 (1 ∷ 2 ∷ 2 ∷ 2 ∷ []) (x ∷ [])
 unfolding compute
 k9-spent x work h =
     ap (λ (k : ℕ). replyOf k (page (rules claw (settings 2 0 2)) 7 1 (fresh 4)) (fresh 4) (x ∷ [])) (k9-accepted work h)
@@ -118,15 +126,15 @@ settings-pass notion kind c h g l u =
     rw (le-ltb 2 notion h, le-ltb 1 kind g, ne-eqb c 0 (omega arith), le-ltb 1024 c u)
 
 module _ (notion kind c work : ℕ) (h : notion ≤ 2) (g : kind ≤ 1) (l : 1 ≤ c) (u : c ≤ 1024) (w : 32 ≤ work) where
-  k10-passes : refusePage (byteTable 4 clawTable) (settings notion kind c) (1 ∷ 1 ∷ 0 ∷ 0 ∷ []) work ≡ 0
+  k10-passes : refusePage clawLent (settings notion kind c) (1 ∷ 1 ∷ 0 ∷ 0 ∷ []) work ≡ 0
   unfolding compute
   k10-passes = rw (settings-pass notion kind c h g l u, le-ltb work 32 w, lt-ltb 0 (c * 1) (omega arith))
 
-  k10-dead : refusePage (byteTable 4 clawTable) (settings notion kind c) (1 ∷ 1 ∷ 1 ∷ 0 ∷ []) work ≡ 23
+  k10-dead : refusePage clawLent (settings notion kind c) (1 ∷ 1 ∷ 1 ∷ 0 ∷ []) work ≡ 23
   unfolding compute
   k10-dead = rw (settings-pass notion kind c h g l u, le-ltb work 32 w)
 
-  k10-gap : refusePage (byteTable 4 clawTable) (settings notion kind c) (0 ∷ 1 ∷ 0 ∷ 0 ∷ []) work ≡ 22
+  k10-gap : refusePage clawLent (settings notion kind c) (0 ∷ 1 ∷ 0 ∷ 0 ∷ []) work ≡ 22
   unfolding compute
   k10-gap = rw (settings-pass notion kind c h g l u, le-ltb work 32 w)
 

@@ -43,3 +43,8 @@ least (suc n) p = let rest = suc (least n (λ i. p (suc i))) in cond (p zero) ze
 unfoldable pub passing : ℕ → (ℕ → Bool) → List ℕ
 passing zero p = []
 passing (suc n) p = passing n p ++ cond (p n) (n ∷ []) []
+
+-- f of each number below n, in their order
+unfoldable pub listed : ℕ → (ℕ → ℕ) → List ℕ
+listed zero f = []
+listed (suc n) f = listed n f ++ (f n ∷ [])

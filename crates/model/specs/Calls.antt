@@ -3,10 +3,10 @@
 use Prim.Native.Nat.{ℕ, zero, suc, _*_, _-_}
 use mathlib.Core.Bool.{Bool, true, false, _||_, not, Bool·beq}
 use mathlib.Core.List.{List, [], _∷_, _++_}
-use lib.ListN.{length, drop, set}
+use lib.ListN.{length, getD, drop, set}
 use lib.Dec.{ltb, eqb}
 use Rattle.model.specs.Below.{any, least}
-use Rattle.model.specs.Graph.{Graph, LentGraph, byTable}
+use Rattle.model.specs.Graph.{Graph, LentGraph, byTable, degree}
 use Rattle.model.specs.Groups.{Settings, VertexSet, qualifies}
 use Rattle.model.specs.Walk.{Position, Rules, Page, only, page}
 use Rattle.model.specs.Listing.{is, rules}
@@ -46,6 +46,14 @@ refuseTable n t =
 -- a graph as it is lent in a table of n × n bytes
 abbrev pub byteTable : ℕ → List ℕ → LentGraph
 byteTable n t = record { fault = refuseTable n t; graph = byTable n t }
+
+-- Document 02, C-12: "42 (right after 5) a degree not its row's ones, or the list not n long"
+unfoldable pub refuseDegrees : Graph → List ℕ → ℕ
+refuseDegrees G d = refuse 42 (not (eqb (length d) (G .size)) || any (G .size) (λ v. not (eqb (getD d v 0) (degree G v)))) 0
+
+-- Document 02, C-12: a graph that is lent with the list of its degrees beside it
+abbrev pub withDegrees : LentGraph → List ℕ → LentGraph
+withDegrees L d = record { fault = orElse (L .fault) (refuseDegrees (L .graph) d); graph = L .graph }
 
 -- Document 01, "Turned back by the input": 6 notion over 2; 7 kind over 1; 8 c is 0 or over 1,024
 unfoldable pub refuseSettings : Settings → ℕ
@@ -124,10 +132,11 @@ replyTo c p =
     replyOf (refusePage (c .lent) (c .settings) p (c .work)) (page (rules (c .lent .graph) (c .settings)) (c .budget) (length (c .output)) p)
     p (c .output)
 
--- the page call on a table of bytes, by the graph's size and table, the settings, the budget, the position, the output slice and the work
--- slice's length
-abbrev pub pageCall : ℕ → List ℕ → Settings → ℕ → Position → List ℕ → ℕ → PageReply
-pageCall n t s budget p out work = replyTo (record { lent = byteTable n t; settings = s; budget = budget; output = out; work = work }) p
+-- the page call on a table of bytes, by the graph's size, table and degree list, the settings, the budget, the position, the output slice and the
+-- work slice's length
+abbrev pub pageCall : ℕ → List ℕ → List ℕ → Settings → ℕ → Position → List ℕ → ℕ → PageReply
+pageCall n t d s budget p out work =
+    replyTo (record { lent = withDegrees (byteTable n t) d; settings = s; budget = budget; output = out; work = work }) p
 
 -- Document 01, "One set, one text, one program": the set is n bytes, 1 for a member
 abbrev pub byBytes : List ℕ → VertexSet
@@ -137,7 +146,7 @@ byBytes bs = is 1 bs
 unfoldable pub refuseQuery : LentGraph → Settings → List ℕ → ℕ → ℕ
 refuseQuery L s bs work = orElse (refuseInput L s (length bs) work) (refuse 11 (over 1 bs) 0)
 
--- a set query's answer; it leaves table and set as they are, and the work slice too where it is refused
+-- a set query's answer; it leaves table, degree list and set as they are, and the work slice too where it is refused
 pub record QueryReply : Type 0 where
   pub refused : ℕ
   pub yes : Bool
@@ -151,6 +160,6 @@ queryReply (suc k) q = record { refused = suc k; yes = false }
 unfoldable pub answerTo : LentGraph → Settings → List ℕ → ℕ → QueryReply
 answerTo L s bs work = queryReply (refuseQuery L s bs work) (qualifies (L .graph) s (byBytes bs))
 
--- the set query on a table of bytes, by the graph's size and table, the settings, the set's bytes and the work slice's length
-abbrev pub query : ℕ → List ℕ → Settings → List ℕ → ℕ → QueryReply
-query n t s bs work = answerTo (byteTable n t) s bs work
+-- the set query on a table of bytes, by the graph's size, table and degree list, the settings, the set's bytes and the work slice's length
+abbrev pub query : ℕ → List ℕ → List ℕ → Settings → List ℕ → ℕ → QueryReply
+query n t d s bs work = answerTo (withDegrees (byteTable n t) d) s bs work

@@ -9,19 +9,19 @@ use mathlib.Core.List.{List, [], _∷_, _++_}
 use lib.ListN.{length, getD, set}
 pub use Rattle.model.specs.Fault.{Fault}
 unfoldable pub use Rattle.model.specs.Fault.{numbered, NonZero, FirstFault, NoFault}
-use Rattle.model.specs.Graph.{Graph, LentGraph}
+use Rattle.model.specs.Graph.{Graph, LentGraph, degree}
 use Rattle.model.specs.Groups.{Factor, Settings}
 use Rattle.model.specs.Meaning.{Under, Simple}
 use Rattle.model.specs.Walk.{Position}
 use Rattle.model.specs.Listing.{adjacent, leftNeighbours}
 use Rattle.model.specs.Calls.{PageReply, QueryReply}
 
--- "lowest number first": the numbers rise, from above m
-abbrev pub Rising : ℕ → List Fault → Type 0
-Rising m [] = Unit {0}
-Rising m (f ∷ fs) = (m < f .number) × Rising (f .number) fs
+-- the numbers of faults in the order in which they are tested
+abbrev pub numbersOf : List Fault → List ℕ
+numbersOf [] = []
+numbersOf (f ∷ fs) = f .number ∷ numbersOf fs
 
--- ---- the table, the settings and the lengths
+-- ---- the table, the degree list, the settings and the lengths
 
 -- 1 n over 1,024; 2 table length not n × n; 3 a table byte other than 0 or 1; 4 a 1 on the diagonal; 5 not symmetric
 abbrev pub tableFaults : ℕ → List ℕ → List Fault
@@ -32,6 +32,10 @@ tableFaults n t =
     ∷ numbered 4 ((u : ℕ) × (u < n) × (getD t (u * n + u) 0 ≡ 1))
     ∷ numbered 5 ((u : ℕ) × (v : ℕ) × (u < n) × (v < n) × (getD t (u * n + v) 0 ≢ getD t (v * n + u) 0))
     ∷ []
+
+-- Document 02, C-12: 42 a degree not its row's ones, or the list not n long
+abbrev pub degreesFaults : Graph → List ℕ → List Fault
+degreesFaults G d = numbered 42 ((length d ≢ G .size) ⊎ ((v : ℕ) × (v < G .size) × (getD d v 0 ≢ degree G v))) ∷ []
 
 -- 6 notion over 2; 7 kind over 1; 8 c is 0 or over 1,024
 abbrev pub settingsFaults : Settings → List Fault
@@ -91,7 +95,7 @@ pub record Lends (faults : List Fault) (L : LentGraph) : Type 0 where
   pub first : FirstFault faults (L .fault)
   pub simple : L .fault ≡ 0 → Simple (L .graph)
 
--- the page call: the faults of what is lent, 1 to 5 for a table of bytes; 6 to 10, then 21 to 23
+-- the page call: the faults of what is lent, 1 to 5 and 42 for a table of bytes and a degree list; 6 to 10, then 21 to 23
 abbrev pub pageFaults : List Fault → Graph → Settings → Position → ℕ → List Fault
 pageFaults faults G s p work = faults ++ (settingsFaults s ++ lengthFaults (G .size) (length p) work ++ positionFaults G (s .factor) p)
 

@@ -3,9 +3,9 @@
 use Prim.Native.Nat.{ℕ, _+_, _*_}
 use mathlib.Core.Bool.{Bool, _&&_, _||_}
 use mathlib.Core.List.{List}
-use lib.ListN.{getD}
+use lib.ListN.{getD, set}
 use lib.Dec.{ltb, eqb}
-use Rattle.model.specs.Below.{count, least}
+use Rattle.model.specs.Below.{count, least, listed}
 
 -- the vertices are the numbers below `size`
 pub record Graph : Type 0 where
@@ -35,9 +35,17 @@ byteJoined n t u v = eqb (getD t (u * n + v) 0) 1
 abbrev pub byTable : ℕ → List ℕ → Graph
 byTable n t = onVertices n (byteJoined n t)
 
+-- the table with x in both bytes of the pair of u and v: 1 joins it, and 0 parts it
+unfoldable pub withPair : ℕ → ℕ → ℕ → ℕ → List ℕ → List ℕ
+withPair x n u v t = set (set t (u * n + v) x) (v * n + u) x
+
 -- Document 01, "Graph and ranks": the degree of a vertex is the ones in its row
 unfoldable pub degree : Graph → ℕ → ℕ
 degree G u = count (G .size) (G .joined u)
+
+-- Document 02, C-12: the list of the n degrees, vertex by vertex
+abbrev pub degreeList : Graph → List ℕ
+degreeList G = listed (G .size) (degree G)
 
 -- Document 01, "Graph and ranks": rank 0 is the vertex of least degree, and equal degrees go by smaller vertex number. So u comes before v
 -- where it has the smaller degree, or the same degree and the smaller number. Documents 000, section 2, and 002, section 2.2, sort by degree too and

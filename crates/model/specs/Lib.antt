@@ -9,6 +9,7 @@ pub mod Calls
 pub mod Text
 pub mod Fault
 pub mod Faults
+pub mod Edits
 pub mod EdgeText
 pub mod Repeats
 pub mod Program

@@ -4,8 +4,9 @@ use Prim.Native.Nat.{ℕ, suc, _+_, _*_, _-_}
 use mathlib.Core.Bool.{Bool, true, false, _&&_, _||_, not, cond}
 use mathlib.Core.List.{List, [], _∷_, _++_}
 use mathlib.Core.Option.{Option, none, some}
-use lib.ListN.{length, getD, drop, set, replicate}
+use lib.ListN.{length, getD, drop, replicate}
 use lib.Dec.{leb, ltb, eqb}
+use Rattle.model.specs.Graph.{withPair}
 
 -- ---- lines, fields and numbers
 
@@ -71,10 +72,6 @@ pLine room n m =
     (fault 40 (ltb room (n * n))
     (next (record { passed = true; vertices = n; stated = m; edges = 0; table = replicate (n * n) 0 })))
 
--- both directions of a pair are joined
-unfoldable pub joinPair : ℕ → ℕ → ℕ → List ℕ → List ℕ
-joinPair n u v t = set (set t (u * n + v) 1) (v * n + u) 1
-
 -- an e line in form: 36 U or V out of range; 37 U = V. It is counted, and its pair is joined, also where the pair stood before
 -- (document 02, C-11: "A repeated pair now counts once in the table. M is still the count of e lines.")
 unfoldable pub eLine : Reading → ℕ → ℕ → Step
@@ -88,7 +85,7 @@ eLine r u v =
       vertices = n;
       stated = r .stated;
       edges = suc (r .edges);
-      table = joinPair n (u - 1) (v - 1) (r .table);
+      table = withPair 1 n (u - 1) (v - 1) (r .table);
     })))
 
 -- two numbers, or 32

@@ -6,12 +6,13 @@ use mathlib.Core.Path.{_≡_}
 use mathlib.Core.Bool.{true, false}
 use mathlib.Core.List.{List, [], _∷_, _++_}
 use lib.ListN.{replicate}
-use Rattle.model.specs.Graph.{Graph, byTable}
+use Rattle.model.specs.Graph.{Graph, LentGraph, byTable}
 use Rattle.model.specs.Groups.{Settings, settings, isolatedClique}
 use Rattle.model.specs.Walk.{Position, fresh, lasts, fullList}
 use Rattle.model.specs.Listing.{rules}
 use Rattle.model.specs.Text.{readText}
-use Rattle.model.specs.Calls.{byteTable, refuseSettings, refusePage, PageReply, pageCall, byBytes, QueryReply, query}
+use Rattle.model.specs.Calls.{byteTable, withDegrees, refuseSettings, refusePage, PageReply, pageCall, byBytes, QueryReply, query}
+use Rattle.model.specs.Edits.{EditReply, editCall, DegreesReply, degreesCall}
 
 -- the full list has these entries, and the walk this length
 abbrev pub Gives : Graph → Settings → List ℕ → ℕ → Type 0
@@ -41,6 +42,14 @@ clawTable =
 abbrev pub claw : Graph
 claw = byTable 4 clawTable
 
+-- its degrees
+abbrev pub clawDegrees : List ℕ
+clawDegrees = 3 ∷ 1 ∷ 1 ∷ 1 ∷ []
+
+-- both as they are lent to a call
+abbrev pub clawLent : LentGraph
+clawLent = withDegrees (byteTable 4 clawTable) clawDegrees
+
 -- the answer of a page that wrote nothing
 abbrev pub wroteNothing : ℕ → ℕ → ℕ → Position → List ℕ → PageReply
 wroteNothing stop steps wanted p out =
@@ -58,13 +67,13 @@ pub record Worked : Type 0 where
   pub K8-min : (kind : ℕ) → kind ≤ 1 → Gives claw (settings 0 kind 1) (2 ∷ 1 ∷ 0 ∷ 2 ∷ 2 ∷ 0 ∷ 2 ∷ 3 ∷ 0 ∷ []) 20
   pub K8-avg : (kind : ℕ) → kind ≤ 1 → Gives claw (settings 1 kind 1) [] 20
   pub K9-full : (x work : ℕ) → 32 ≤ work →
-      pageCall 4 clawTable (settings 2 0 2) 8 (fresh 4) (x ∷ []) work ≡ wroteNothing 3 7 2 (1 ∷ 2 ∷ 2 ∷ 2 ∷ []) (x ∷ [])
+      pageCall 4 clawTable clawDegrees (settings 2 0 2) 8 (fresh 4) (x ∷ []) work ≡ wroteNothing 3 7 2 (1 ∷ 2 ∷ 2 ∷ 2 ∷ []) (x ∷ [])
   pub K9-spent : (x work : ℕ) → 32 ≤ work →
-      pageCall 4 clawTable (settings 2 0 2) 7 (fresh 4) (x ∷ []) work ≡ wroteNothing 2 7 0 (1 ∷ 2 ∷ 2 ∷ 2 ∷ []) (x ∷ [])
+      pageCall 4 clawTable clawDegrees (settings 2 0 2) 7 (fresh 4) (x ∷ []) work ≡ wroteNothing 2 7 0 (1 ∷ 2 ∷ 2 ∷ 2 ∷ []) (x ∷ [])
   pub K10 : (notion kind c work : ℕ) → notion ≤ 2 → kind ≤ 1 → 1 ≤ c → c ≤ 1024 → 32 ≤ work →
-      (refusePage (byteTable 4 clawTable) (settings notion kind c) (1 ∷ 1 ∷ 0 ∷ 0 ∷ []) work ≡ 0)
-      × (refusePage (byteTable 4 clawTable) (settings notion kind c) (1 ∷ 1 ∷ 1 ∷ 0 ∷ []) work ≡ 23)
-      × (refusePage (byteTable 4 clawTable) (settings notion kind c) (0 ∷ 1 ∷ 0 ∷ 0 ∷ []) work ≡ 22)
+      (refusePage clawLent (settings notion kind c) (1 ∷ 1 ∷ 0 ∷ 0 ∷ []) work ≡ 0)
+      × (refusePage clawLent (settings notion kind c) (1 ∷ 1 ∷ 1 ∷ 0 ∷ []) work ≡ 23)
+      × (refusePage clawLent (settings notion kind c) (0 ∷ 1 ∷ 0 ∷ 0 ∷ []) work ≡ 22)
 
 -- K11's graph: triangle 0, 1, 2 with leaves 3, 4 on 1 and 5, 6 on 2
 abbrev pub twoStems : Graph
@@ -103,11 +112,11 @@ oneEdge =
 
 -- a page call on the claw, max, kind 0, c 2, with a work slice of exactly 8 × 4 entries
 abbrev pub onClaw : ℕ → Position → List ℕ → PageReply
-onClaw budget p out = pageCall 4 clawTable (settings 2 0 2) budget p out 32
+onClaw budget p out = pageCall 4 clawTable clawDegrees (settings 2 0 2) budget p out 32
 
 -- a set query on it
 abbrev pub askClaw : List ℕ → QueryReply
-askClaw set = query 4 clawTable (settings 2 0 2) set 32
+askClaw set = query 4 clawTable clawDegrees (settings 2 0 2) set 32
 
 -- What K1 to K10 leave open, with any contents x of lent memory.
 pub record Pinned (x : ℕ) : Type 0 where
@@ -137,8 +146,8 @@ pub record Pinned (x : ℕ) : Type 0 where
       ≡ record { refused = 23; stop = 0; groups = 0; used = 0; steps = 0; wanted = 0; position = 1 ∷ 1 ∷ 1 ∷ 0 ∷ []; output = x ∷ [] }
   -- "lowest number first": a notion over 2, a work slice under 8 × n and a dead position at once, and without the first of these
   pub lowest :
-      (refusePage (byteTable 4 clawTable) (settings 3 0 2) (1 ∷ 1 ∷ 1 ∷ 0 ∷ []) 31 ≡ 6)
-      × (refusePage (byteTable 4 clawTable) (settings 2 0 2) (1 ∷ 1 ∷ 1 ∷ 0 ∷ []) 31 ≡ 10)
+      (refusePage clawLent (settings 3 0 2) (1 ∷ 1 ∷ 1 ∷ 0 ∷ []) 31 ≡ 6)
+      × (refusePage clawLent (settings 2 0 2) (1 ∷ 1 ∷ 1 ∷ 0 ∷ []) 31 ≡ 10)
   -- "c 1,024 passes, 1,025 is 8"
   pub factor : (refuseSettings (settings 2 0 1024) ≡ 0) × (refuseSettings (settings 2 0 1025) ≡ 8)
   -- K11, max, kind 0, c 3: {0} is not maximal, since the triangle is isolated, though {0, 1} isn't isolated
@@ -168,3 +177,44 @@ pub record Pinned (x : ℕ) : Type 0 where
   -- and a vertex with itself stays 37
   pub loop :
       readText (onThree 1 (eText 1 1 [])) (replicate 9 x) ≡ record { refused = 37; vertices = 0; stated = 0; line = 2; slice = replicate 9 0 }
+  -- Document 02, C-12: 42 comes right after 5, before 6, where a degree is one off, and where the list is one entry too short or too long
+  pub degrees-refused :
+      (refusePage (withDegrees (byteTable 4 clawTable) (3 ∷ 1 ∷ 1 ∷ 2 ∷ [])) (settings 3 0 2) (fresh 4) 32 ≡ 42)
+      × (refusePage (withDegrees (byteTable 4 clawTable) (3 ∷ 1 ∷ 1 ∷ [])) (settings 3 0 2) (fresh 4) 32 ≡ 42)
+      × (refusePage (withDegrees (byteTable 4 clawTable) (3 ∷ 1 ∷ 1 ∷ 1 ∷ 0 ∷ [])) (settings 3 0 2) (fresh 4) 32 ≡ 42)
+  -- "the pair is then joined, or parted, its two degrees follow": leaves 1 and 2 of the claw are joined, and leaf 3 is parted from the centre
+  pub joined :
+      editCall true 4 clawTable clawDegrees 1 2
+      ≡ record {
+        refused = 0;
+        unchanged = false;
+        table =
+            0 ∷ 1 ∷ 1 ∷ 1 ∷
+            1 ∷ 0 ∷ 1 ∷ 0 ∷
+            1 ∷ 1 ∷ 0 ∷ 0 ∷
+            1 ∷ 0 ∷ 0 ∷ 0 ∷ [];
+        degrees = 3 ∷ 2 ∷ 2 ∷ 1 ∷ [];
+      }
+  pub parted :
+      editCall false 4 clawTable clawDegrees 3 0
+      ≡ record {
+        refused = 0;
+        unchanged = false;
+        table =
+            0 ∷ 1 ∷ 1 ∷ 0 ∷
+            1 ∷ 0 ∷ 0 ∷ 0 ∷
+            1 ∷ 0 ∷ 0 ∷ 0 ∷
+            0 ∷ 0 ∷ 0 ∷ 0 ∷ [];
+        degrees = 2 ∷ 1 ∷ 1 ∷ 0 ∷ [];
+      }
+  -- "Joining a joined pair, or parting a parted one, changes nothing, and only then the answer says so"
+  pub joined-already : editCall true 4 clawTable clawDegrees 0 3 ≡ record { refused = 0; unchanged = true; table = clawTable; degrees = clawDegrees }
+  pub parted-already : editCall false 4 clawTable clawDegrees 1 3 ≡ record { refused = 0; unchanged = true; table = clawTable; degrees = clawDegrees }
+  -- "43 (edit, after 42) a vertex not below n; 44 (edit, after 43) both ends equal"
+  pub edit-refused :
+      (editCall true 4 clawTable (3 ∷ 1 ∷ 1 ∷ 2 ∷ []) 4 4 ≡ record { refused = 42; unchanged = false; table = clawTable; degrees = 3 ∷ 1 ∷ 1 ∷ 2 ∷ [] })
+      × (editCall true 4 clawTable clawDegrees 4 4 ≡ record { refused = 43; unchanged = false; table = clawTable; degrees = clawDegrees })
+      × (editCall false 4 clawTable clawDegrees 2 2 ≡ record { refused = 44; unchanged = false; table = clawTable; degrees = clawDegrees })
+  -- the degrees of the claw are listed whatever the list held, and a list that is not n long is 42
+  pub listed : degreesCall 4 clawTable (x ∷ x ∷ x ∷ x ∷ []) ≡ record { refused = 0; degrees = clawDegrees }
+  pub listed-refused : degreesCall 4 clawTable (x ∷ x ∷ x ∷ x ∷ x ∷ []) ≡ record { refused = 42; degrees = x ∷ x ∷ x ∷ x ∷ x ∷ [] }

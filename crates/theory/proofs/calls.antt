@@ -1,6 +1,7 @@
 -- Refusals, page calls and the set query.
 pub mod Fault
 pub mod TableFaults
+pub mod DegreeFaults
 pub mod Faults
 pub mod DeadPosition
 pub mod Acceptance

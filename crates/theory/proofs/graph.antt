@@ -3,5 +3,6 @@ pub mod Table
 pub mod Ranks
 pub mod Cliques
 pub mod Degrees
+pub mod DegreeList
 pub mod Factor
 pub mod Meaning

@@ -1,10 +1,10 @@
--- A call is refused with the number of the first fault that holds, and accepted exactly where none holds, whatever form its graph is faults in.
+-- A call is refused with the number of the first fault that holds, and accepted exactly where none holds, whatever form its graph is lent in.
 -- Assumes nothing.
 use Prim.Native.Nat.{ℕ, zero, suc, _*_, _<_}
 use mathlib.Core.Path.{_≡_, refl, sym, ap, _∙_, subst}
 use mathlib.Core.Bool.{Bool, true, false}
 use mathlib.Core.Logic.{_↔_, _≢_}
-use mathlib.Core.List.{List, _++_}
+use mathlib.Core.List.{List, [], _∷_, _++_}
 use native.Mathlib.Omega.{arith}
 use lib.ListN.{length, getD}
 use borrow.Author.Tests.{eqb-true}
@@ -15,7 +15,7 @@ use Rattle.model.specs.Walk.{Position, Page, page}
 use Rattle.model.specs.Listing.{rules}
 use Rattle.model.specs.Calls.{Call, orElse, refuseSettings, refuseLengths, refuseInput, refusePosition, refusePage, replyOf, replyTo, byBytes, refuseQuery, queryReply, answerTo}
 use Rattle.model.specs.Fault.{Fault, FirstFault, NoFault}
-use Rattle.model.specs.Faults.{Rising, tableFaults, settingsFaults, lengthFaults, positionFaults, Lends, pageFaults, queryFaults, turnedBack, saidNo}
+use Rattle.model.specs.Faults.{numbersOf, tableFaults, degreesFaults, settingsFaults, lengthFaults, positionFaults, Lends, pageFaults, queryFaults, turnedBack, saidNo}
 use Rattle.theory.proofs.basics.Tests.{test-not, test-lt, test-or, test-eq, not-different, fails}
 use Rattle.theory.proofs.basics.Refusals.{else-assoc}
 pub use Rattle.theory.proofs.calls.Fault.{first-once}
@@ -54,7 +54,7 @@ lengths-first n bytes work =
 
 -- p is the position of a page call, and the set of a set query
 module _ {faults : List Fault} {L : LentGraph} (form : Lends faults L) (s : Settings) (p : List ℕ) (work : ℕ) where
-  -- the faults of what is faults, 6 to 10, and what is known where none of them holds
+  -- the faults of what is lent, 6 to 10, and what is known where none of them holds
   input-first : (fs : List Fault) (later : ℕ) → (Symmetric (L .graph) → length p ≡ L .graph .size → FirstFault fs later)
       → FirstFault (faults ++ (settingsFaults s ++ lengthFaults (L .graph .size) (length p) work ++ fs)) (orElse (refuseInput L s (length p) work) later)
   unfolding refuseInput
@@ -124,14 +124,18 @@ module _ {faults : List Fault} (c : Call) (form : Lends faults (c .lent)) (p : P
       ap (λ (k : ℕ). replyOf k (page (rules (c .lent .graph) (c .settings)) (c .budget) (length (c .output)) p) p (c .output))
       (page-accepted-iff form (c .settings) p (c .work) .1 f)
 
-module _ (n : ℕ) (t : List ℕ) (s : Settings) (p : List ℕ) (work : ℕ) where
-  -- document 01 checks the lowest number first
-  pub page-rising : Rising 0 (pageFaults (tableFaults n t) (byTable n t) s p work)
-  page-rising = omega arith
+module _ (n : ℕ) (t d : List ℕ) (s : Settings) (p : List ℕ) (work : ℕ) where
+  -- document 01 checks the lowest number first, and document 02, C-12, has 42 right after 5
+  pub page-order :
+      numbersOf (pageFaults (tableFaults n t ++ degreesFaults (byTable n t) d) (byTable n t) s p work)
+      ≡ (1 ∷ 2 ∷ 3 ∷ 4 ∷ 5 ∷ 42 ∷ 6 ∷ 7 ∷ 8 ∷ 9 ∷ 10 ∷ 21 ∷ 22 ∷ 23 ∷ [])
+  page-order = refl
 
   -- and so for the set query
-  pub query-rising : Rising 0 (queryFaults (tableFaults n t) (byTable n t) s p work)
-  query-rising = omega arith
+  pub query-order :
+      numbersOf (queryFaults (tableFaults n t ++ degreesFaults (byTable n t) d) (byTable n t) s p work)
+      ≡ (1 ∷ 2 ∷ 3 ∷ 4 ∷ 5 ∷ 42 ∷ 6 ∷ 7 ∷ 8 ∷ 9 ∷ 10 ∷ 11 ∷ [])
+  query-order = refl
 
 -- the empty set is a no
 pub query-empty : (L : LentGraph) (s : Settings) (bs : List ℕ) (work : ℕ) → ((v : ℕ) → v < L .graph .size → getD bs v 0 ≢ 1) → answerTo L s bs work .yes ≡ false

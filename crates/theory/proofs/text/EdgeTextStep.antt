@@ -9,7 +9,8 @@ use native.Mathlib.Omega.{arith}
 use lib.ListN.{replicate}
 use lib.Dec.{ltb, eqb}
 use borrow.Author.Tests.{ltb-true, ltb-false, eqb-true, eqb-false}
-use Rattle.model.specs.Text.{fieldsOf, Reading, Step, bad, next, fault, pLine, joinPair, eLine, pFields, eFields, lineStep}
+use Rattle.model.specs.Graph.{withPair}
+use Rattle.model.specs.Text.{fieldsOf, Reading, Step, bad, next, fault, pLine, eLine, pFields, eFields, lineStep}
 use Rattle.model.specs.Fault.{FirstFault, NoFault}
 use Rattle.model.specs.EdgeText.{Letter, Line, comment, problem, edge, Spells, edges, Ends, Drawn, Table, Passed, OutOfRange, lineFaults}
 use Rattle.theory.proofs.basics.Tests.{Test, test-or, test-lt, test-eq}
@@ -50,7 +51,7 @@ joinedBy r u v =
       vertices = r .vertices;
       stated = r .stated;
       edges = suc (r .edges);
-      table = joinPair (r .vertices) (u - 1) (v - 1) (r .table);
+      table = withPair 1 (r .vertices) (u - 1) (v - 1) (r .table);
     }
 
 -- what a step finds in the line l after lines that say xs
@@ -150,7 +151,7 @@ module _ (room : ℕ) (xs : List Line) (l : List ℕ) where
                   (λ a b q. edge-not-problem u v a b (sym q))
                   (λ a b q. subst₂ (Ends (r .vertices)) (sym (edge-first a b u v q)) (sym (edge-second a b u v q)) h);
               count = let q = edges-append xs (edge u v ∷ []) in let c = g .count in omega arith;
-              table = subst₂ (λ (a b : ℕ). Table (r .vertices) (xs ++ (edge a b ∷ [])) (joinPair (r .vertices) (u - 1) (v - 1) (r .table))) u-is v-is
+              table = subst₂ (λ (a b : ℕ). Table (r .vertices) (xs ++ (edge a b ∷ [])) (withPair 1 (r .vertices) (u - 1) (v - 1) (r .table))) u-is v-is
                   (table-joins (r .vertices) xs (r .table) (g .table) (u - 1) (v - 1) u-below v-below);
             }
 

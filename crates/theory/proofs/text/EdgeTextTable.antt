@@ -11,7 +11,7 @@ use lib.ListN.{length, getD, set, replicate, length-set, length-replicate, getD-
 use lib.Seq.{getD-set-same, getD-set-other, ext-getD}
 use lib.Dec.{ltb, eqb}
 use borrow.Author.Tests.{ltb-true, ltb-false, eqb-true, eqb-false, eq-eqb}
-use Rattle.model.specs.Text.{joinPair}
+use Rattle.model.specs.Graph.{withPair}
 use Rattle.model.specs.EdgeText.{Line, comment, problem, edge, HasPair, Table}
 use Rattle.theory.proofs.basics.Tests.{Test, trichotomy}
 use Rattle.theory.proofs.graph.Table.{row-end}
@@ -139,8 +139,8 @@ module _ (n : ℕ) where
 
   module _ (xs : List Line) (t : List ℕ) (a : Table n xs t) where
     -- an e line extends it by its pair
-    pub table-joins : (u v : ℕ) → u < n → v < n → Table n (xs ++ (edge (suc u) (suc v) ∷ [])) (joinPair n u v t)
-    unfolding joinPair
+    pub table-joins : (u v : ℕ) → u < n → v < n → Table n (xs ++ (edge (suc u) (suc v) ∷ [])) (withPair 1 n u v t)
+    unfolding withPair
     table-joins u v hu hv =
         record {
           size = length-set (set t (u * n + v) 1) (v * n + u) 1 ∙ length-set t (u * n + v) 1 ∙ a .size;
@@ -212,9 +212,9 @@ module _ (n : ℕ) where
             (go (c .row) (c .column) (c .row-below) (c .column-below) (joins-or-not xs (suc (c .row)) (suc (c .column))))
 
   -- a pair that stood before leaves it as it is
-  pub joined-again : (xs : List Line) (t : List ℕ) → Table n xs t → (u v : ℕ) → u < n → v < n → HasPair xs (suc u) (suc v) → joinPair n u v t ≡ t
+  pub joined-again : (xs : List Line) (t : List ℕ) → Table n xs t → (u v : ℕ) → u < n → v < n → HasPair xs (suc u) (suc v) → withPair 1 n u v t ≡ t
   joined-again xs t a u v hu hv h =
-      table-one (xs ++ (edge (suc u) (suc v) ∷ [])) (joinPair n u v t) (table-joins xs t a u v hu hv) t
+      table-one (xs ++ (edge (suc u) (suc v) ∷ [])) (withPair 1 n u v t) (table-joins xs t a u v hu hv) t
       (record {
         size = a .size;
         joined = λ c d hc hd j. a .joined c d hc hd (joins-again xs (suc u) (suc v) h (suc c) (suc d) j);
