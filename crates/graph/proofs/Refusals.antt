@@ -1,20 +1,22 @@
--- The refusals of a table as a search over it finds them, and what an accepted table has.
+-- The refusals of a table and a degree list as a search over them finds them, and what accepted ones have.
 -- Assumes nothing.
 use Prim.Native.Nat.{ℕ, _*_, _<_}
-use mathlib.Core.Path.{_≡_, refl}
-use mathlib.Core.Bool.{Bool, true, false, not, Bool·beq}
+use mathlib.Core.Path.{_≡_, refl, sym, _∙_}
+use mathlib.Core.Bool.{Bool, true, false, not, _||_, Bool·beq}
 use mathlib.Core.List.{List}
-use mathlib.Core.Logic.{_⊎_, inl, inr}
+use mathlib.Core.Logic.{_≢_, _⊎_, inl, inr}
 use native.Mathlib.Omega.{arith}
-use lib.ListN.{length}
+use lib.ListN.{length, getD}
 use lib.Dec.{ltb, eqb}
 use Rattle.model.specs.Below.{any}
-use Rattle.model.specs.Graph.{Graph, byTable}
+use Rattle.model.specs.Graph.{Graph, byTable, degree, degreeList}
 use Rattle.model.specs.Meaning.{Simple}
-use Rattle.model.specs.Calls.{refuse, over, looped, oneWay, refuseTable}
+use Rattle.model.specs.Calls.{refuse, over, looped, oneWay, refuseTable, refuseDegrees}
 use Rattle.theory.proofs.basics.Tests.{test-self, test-any, any-found, any-none, any-each, not-different, trichotomy}
+use Rattle.theory.proofs.basics.Refusals.{else-none, else-found, else-passed}
 use Rattle.theory.proofs.calls.TableFaults.{table-accepted-iff, byte-table}
-use Rattle.graph.specs.Table.{TableFits, lent, graphOf, differ}
+use Rattle.theory.proofs.calls.DegreeFaults.{degrees-accepted}
+use Rattle.graph.specs.Table.{TableFits, lentTable, lent, graphOf, differ}
 
 -- refusal 5: of two vertices one is below the other, so it is enough to test each u against the vertices below it
 module _ (G : Graph) where
@@ -59,12 +61,35 @@ refusal-by n t p q r s o = rw (p, q, r, s, o)
 
 module _ (n : ℕ) (t : List ℕ) where
   -- it has the length that code relies on
-  pub table-fits : lent n t .fault ≡ 0 → TableFits n t
+  pub table-fits : lentTable n t .fault ≡ 0 → TableFits n t
   table-fits e =
       let none = table-accepted-iff n t .0 e in
       let few = none .0 in
       record { small = omega arith; whole = not-different (length t) (n * n) (none .1 .0) }
 
   -- and its graph is one of document 01
-  pub lent-simple : lent n t .fault ≡ 0 → Simple (graphOf n t)
+  pub lent-simple : lentTable n t .fault ≡ 0 → Simple (graphOf n t)
   lent-simple = byte-table n t .simple
+
+-- ---- a table and a degree list
+
+module _ (n : ℕ) (t d : List ℕ) where
+  -- the table has a fault
+  pub by-table : {r : ℕ} → r ≡ lentTable n t .fault → r ≢ 0 → r ≡ lent n t d .fault
+  by-table e x = e ∙ sym (else-found (λ z. x (e ∙ z)) _)
+
+  -- it has none, and the outcome of the tests of the list decides
+  pub by-list : {r : ℕ} {a b : Bool} → r ≡ lentTable n t .fault → r ≡ 0 → not (eqb (length d) n) ≡ a
+      → any n (λ v. not (eqb (getD d v 0) (degree (graphOf n t) v))) ≡ b → refuse 42 (a || b) 0 ≡ lent n t d .fault
+  unfolding refuseDegrees
+  by-list e z p q = rw (p, q) (sym (else-none (sym e ∙ z) _))
+
+  -- what passes both: the table passes, and the list is n long and holds the degrees
+  pub record LentPassed : Type 0 where
+    pub no-fault : lentTable n t .fault ≡ 0
+    pub listed : d ≡ degreeList (graphOf n t)
+
+  pub lent-passed : lent n t d .fault ≡ 0 → LentPassed
+  lent-passed e =
+      let a = else-passed (lentTable n t .fault) _ e in
+      record { no-fault = a .0; listed = degrees-accepted (graphOf n t) d .0 (a .1) }

@@ -1,2 +1,3 @@
--- What the functions over the byte table require.
+-- What the functions over the byte table and the degree list require.
 pub mod Table
+pub mod Degrees
