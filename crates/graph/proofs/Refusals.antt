@@ -1,7 +1,7 @@
 -- The refusals of a table and a degree list as a search over them finds them, and what accepted ones have.
 -- Assumes nothing.
 use Prim.Native.Nat.{ℕ, _*_, _<_}
-use mathlib.Core.Path.{_≡_, refl, sym, _∙_}
+use mathlib.Core.Path.{_≡_, refl, sym, ap, _∙_}
 use mathlib.Core.Bool.{Bool, true, false, not, _||_, Bool·beq}
 use mathlib.Core.List.{List}
 use mathlib.Core.Logic.{_≢_, _⊎_, inl, inr}
@@ -9,14 +9,16 @@ use native.Mathlib.Omega.{arith}
 use lib.ListN.{length, getD}
 use lib.Dec.{ltb, eqb}
 use Rattle.model.specs.Below.{any}
-use Rattle.model.specs.Graph.{Graph, byTable, degree, degreeList}
+use Rattle.model.specs.Graph.{Graph, byTable, degree}
 use Rattle.model.specs.Meaning.{Simple}
 use Rattle.model.specs.Calls.{refuse, over, looped, oneWay, refuseTable, refuseDegrees}
 use Rattle.theory.proofs.basics.Tests.{test-self, test-any, any-found, any-none, any-each, not-different, trichotomy}
 use Rattle.theory.proofs.basics.Refusals.{else-none, else-found, else-passed}
+use Rattle.theory.proofs.graph.DegreeList.{degree-list-length, degree-list-at}
 use Rattle.theory.proofs.calls.TableFaults.{table-accepted-iff, byte-table}
 use Rattle.theory.proofs.calls.DegreeFaults.{degrees-accepted}
 use Rattle.graph.specs.Table.{TableFits, lentTable, lent, graphOf, differ}
+use Rattle.graph.specs.Degrees.{DegreesFit, HoldsDegrees}
 
 -- refusal 5: of two vertices one is below the other, so it is enough to test each u against the vertices below it
 module _ (G : Graph) where
@@ -84,12 +86,21 @@ module _ (n : ℕ) (t d : List ℕ) where
   unfolding refuseDegrees
   by-list e z p q = rw (p, q) (sym (else-none (sym e ∙ z) _))
 
-  -- what passes both: the table passes, and the list is n long and holds the degrees
-  pub record LentPassed : Type 0 where
-    pub no-fault : lentTable n t .fault ≡ 0
-    pub listed : d ≡ degreeList (graphOf n t)
+-- what a table and a list without a fault have
+pub record LentPassed (n : ℕ) (t d : List ℕ) : Type 0 where
+  pub fits : TableFits n t
+  pub simple : Simple (graphOf n t)
+  pub degrees-fit : DegreesFit n d
+  pub degrees : HoldsDegrees n (graphOf n t) d
 
-  pub lent-passed : lent n t d .fault ≡ 0 → LentPassed
-  lent-passed e =
-      let a = else-passed (lentTable n t .fault) _ e in
-      record { no-fault = a .0; listed = degrees-accepted (graphOf n t) d .0 (a .1) }
+pub lent-passed : (n : ℕ) (t d : List ℕ) → lent n t d .fault ≡ 0 → LentPassed n t d
+lent-passed n t d e =
+    let a = else-passed (lentTable n t .fault) _ e in
+    let f = table-fits n t (a .0) in
+    let l = degrees-accepted (graphOf n t) d .0 (a .1) in
+    record {
+      fits = f;
+      simple = lent-simple n t (a .0);
+      degrees-fit = record { small = f .small; whole = ap length l ∙ degree-list-length (graphOf n t) };
+      degrees = λ v h. ap (λ (x : List ℕ). getD x v 0) l ∙ degree-list-at (graphOf n t) v h;
+    }

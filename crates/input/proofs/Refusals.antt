@@ -1,4 +1,4 @@
--- The refusals 1 to 10 in their order, and what passes them.
+-- The refusals 1 to 5, 42 and 6 to 10 in their order, and what passes them.
 -- Assumes nothing.
 use Prim.Native.Nat.{ℕ, _*_, _≤_, _<_}
 use mathlib.Core.Path.{_≡_, sym, _∙_}
@@ -12,7 +12,8 @@ use Rattle.model.specs.Calls.{refuse, refuseSettings, refuseLengths, refuseInpu
 use Rattle.theory.proofs.basics.Refusals.{else-none, else-found}
 use Rattle.theory.proofs.calls.Acceptance.{input-accepted-iff}
 use Rattle.graph.specs.Table.{TableFits, lent, graphOf}
-use Rattle.graph.proofs.Refusals.{table-fits, lent-simple}
+use Rattle.graph.specs.Degrees.{DegreesFit, HoldsDegrees}
+use Rattle.graph.proofs.Refusals.{lent-passed}
 use Rattle.isolation.specs.declared.Settings as code
 use Rattle.isolation.specs.Numbers.{settingsOf, FactorFits}
 use Rattle.isolation.proofs.Refusals.{factor-fits}
@@ -20,10 +21,10 @@ use Rattle.isolation.proofs.Refusals.{factor-fits}
 module _ (L : LentGraph) (s : Settings) (bytes work : ℕ) where
   -- ---- test by test
 
-  -- the table has a fault
-  pub by-table : {r : ℕ} → r ≡ L .fault → r ≢ 0 → r ≡ refuseInput L s bytes work
+  -- what is lent has a fault
+  pub by-graph : {r : ℕ} → r ≡ L .fault → r ≢ 0 → r ≡ refuseInput L s bytes work
   unfolding refuseInput
-  by-table e d = e ∙ sym (else-found (λ z. d (e ∙ z)) _)
+  by-graph e d = e ∙ sym (else-found (λ z. d (e ∙ z)) _)
 
   -- it has none
   module _ {a : ℕ} (table : a ≡ L .fault) (fine : a ≡ 0) where
@@ -55,21 +56,26 @@ module _ (L : LentGraph) (s : Settings) (bytes work : ℕ) where
 
 -- ---- what passes them
 
--- what a call has that passes 1 to 10
-pub record InputPassed (n : ℕ) (t : List ℕ) (q : code.Settings) (bytes work : ℕ) : Type 0 where
+-- what a call has that passes 1 to 5, 42 and 6 to 10
+pub record InputPassed (n : ℕ) (t d : List ℕ) (q : code.Settings) (bytes work : ℕ) : Type 0 where
   pub fits : TableFits n t
   pub simple : Simple (graphOf n t)
+  pub degrees-fit : DegreesFit n d
+  pub degrees : HoldsDegrees n (graphOf n t) d
   pub factor : FactorFits q
   pub long : bytes ≡ n
   pub enough : 8 * n ≤ work
 
 -- a call that passes them has it
-pub input-passed : (n : ℕ) (t : List ℕ) (q : code.Settings) (bytes work : ℕ) → refuseInput (lent n t) (settingsOf q) bytes work ≡ 0 → InputPassed n t q bytes work
-input-passed n t q bytes work e =
-    let a = input-accepted-iff (lent n t) (settingsOf q) bytes work .0 e in
+pub input-passed : (n : ℕ) (t d : List ℕ) (q : code.Settings) (bytes work : ℕ) → refuseInput (lent n t d) (settingsOf q) bytes work ≡ 0 → InputPassed n t d q bytes work
+input-passed n t d q bytes work e =
+    let a = input-accepted-iff (lent n t d) (settingsOf q) bytes work .0 e in
+    let h = lent-passed n t d (a .no-fault) in
     record {
-      fits = table-fits n t (a .no-fault);
-      simple = lent-simple n t (a .no-fault);
+      fits = h .fits;
+      simple = h .simple;
+      degrees-fit = h .degrees-fit;
+      degrees = h .degrees;
       factor = factor-fits q (a .proper);
       long = a .long;
       enough = a .enough;
