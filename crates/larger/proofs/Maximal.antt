@@ -63,7 +63,7 @@ module _ (G : Graph) (s : Settings) (y : Tally) (vs : List ℕ) where
       go zero (suc m) e d = refl
       go (suc k) notion e d = absurd (omega arith)
 
-module _ {n : ℕ} {t ranks w : List ℕ} {s : Settings} {y : Tally} {m : ℕ} (lent : SearchFits n t ranks w) (posed : Posed n t w s y m) where
+module _ {n : ℕ} {t degrees w : List ℕ} {s : Settings} {y : Tally} {m : ℕ} (lent : SearchFits n t degrees w) (posed : Posed n t w s y m) where
   all-candidates : length (part w (3 * n) m) ≡ m
   all-candidates = let l = lent .parts in let f = posed .room in part-length w (3 * n) m (omega arith)
 

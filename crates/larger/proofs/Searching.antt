@@ -13,7 +13,7 @@ use Rattle.model.specs.Graph.{Graph, degree}
 use Rattle.theory.specs.Search.{joinedAll}
 use Rattle.theory.proofs.basics.Tests.{trichotomy}
 use Rattle.theory.proofs.search.Steps.{cut-end, cut-hopeless, cut-apart, cut-here, cut-deeper, cut-next}
-use Rattle.ranks.specs.Ranks.{ReadsDegree}
+use Rattle.graph.specs.Degrees.{ReadsDegree}
 use Rattle.isolation.specs.declared.Settings.{Settings}
 use Rattle.isolation.specs.declared.Tally.{Tally}
 use Rattle.isolation.specs.Numbers.{withMember, isolatedOf, hopelessOf, findOf}
@@ -30,17 +30,17 @@ abbrev pub candidatesIn : ℕ → List ℕ → ℕ → List ℕ
 candidatesIn n w m = part w (candidatesAt n) m
 
 -- before candidate j: what the search says from i on it says from j on, and what it keeps is as it was
-pub record At (n : ℕ) (t ranks w₀ : List ℕ) (s : Settings) (y : Tally) (base i m : ℕ) (w : List ℕ) (j : ℕ) : Type 0 where
-  pub lent : SearchFits n t ranks w₀
+pub record At (n : ℕ) (t degrees w₀ : List ℕ) (s : Settings) (y : Tally) (base i m : ℕ) (w : List ℕ) (j : ℕ) : Type 0 where
+  pub lent : SearchFits n t degrees w₀
   pub room : Room n w₀ s y base i m
   pub from : i ≤ j
   pub kept : SearchKept n (y .members) m w₀ w
   pub same : findOf (graphOf n t) s (addedIn n w₀ y base) y (drop i (candidatesIn n w₀ m)) ≡ findOf (graphOf n t) s (addedIn n w₀ y base) y (drop j (candidatesIn n w₀ m))
 
-pub at-start : {n : ℕ} {t ranks w₀ : List ℕ} {s : Settings} {y : Tally} {base i m : ℕ} → SearchFits n t ranks w₀ → Room n w₀ s y base i m → At n t ranks w₀ s y base i m w₀ i
+pub at-start : {n : ℕ} {t degrees w₀ : List ℕ} {s : Settings} {y : Tally} {base i m : ℕ} → SearchFits n t degrees w₀ → Room n w₀ s y base i m → At n t degrees w₀ s y base i m w₀ i
 at-start lent room = record { lent = lent; room = room; from = omega arith; kept = record { state = state-none; candidates = λ e h. refl }; same = refl }
 
-module _ {n : ℕ} {t ranks w₀ : List ℕ} {s : Settings} {y : Tally} {base i m : ℕ} {w : List ℕ} {j : ℕ} (at : At n t ranks w₀ s y base i m w j) where
+module _ {n : ℕ} {t degrees w₀ : List ℕ} {s : Settings} {y : Tally} {base i m : ℕ} {w : List ℕ} {j : ℕ} (at : At n t degrees w₀ s y base i m w j) where
   abbrev room : Room n w₀ s y base i m
   room = at .room
 
@@ -66,7 +66,7 @@ module _ {n : ℕ} {t ranks w₀ : List ℕ} {s : Settings} {y : Tally} {base i 
 
   -- and where it says that from the next on too, candidate j is passed over
   passes : {w₁ : List ℕ} → SearchKept n (y .members) m w₀ w₁ → findOf graph s added y (drop j candidates) ≡ findOf graph s added y (drop (j + 1) candidates)
-      → At n t ranks w₀ s y base i m w₁ (j + 1)
+      → At n t degrees w₀ s y base i m w₁ (j + 1)
   passes k e = record { lent = at .lent; room = room; from = omega arith; kept = k; same = at .same ∙ e }
 
   -- with no candidate left
@@ -115,7 +115,7 @@ module _ {n : ℕ} {t ranks w₀ : List ℕ} {s : Settings} {y : Tally} {base i 
         joined-is b e = ap (λ (u : ℕ). joinedAll graph u added) is-candidate ∙ ap (joinedAll graph v) (sym still-added) ∙ sym e
 
         -- passed over, where it is not joined to those added
-        pub at-apart : false ≡ joins-added v → At n t ranks w₀ s y base i m w (j + 1)
+        pub at-apart : false ≡ joins-added v → At n t degrees w₀ s y base i m w (j + 1)
         at-apart e = passes (at .kept) (cut-apart _ _ _ _ _ _ _ _ candidates j in-list hope-left (joined-is false e))
 
   -- candidate j, read as v and of degree d, is added: it is there, a set with the candidates left may be isolated, it is joined to those added, and z has
@@ -125,7 +125,7 @@ module _ {n : ℕ} {t ranks w₀ : List ℕ} {s : Settings} {y : Tally} {base i 
     pub hope : hopelessOf s y (m - j) ≡ false
     pub read : v ≡ getD w (3 * n + j) 0
     pub joins : true ≡ joins-added v
-    pub degree : ReadsDegree n ranks v d
+    pub degree : ReadsDegree n degrees v d
     pub more : z ≡ withMember y d
 
   module _ {v d : ℕ} {z : Tally} (adds : Adds v d z) where
@@ -167,11 +167,11 @@ module _ {n : ℕ} {t ranks w₀ : List ℕ} {s : Settings} {y : Tally} {base i 
           candidates = λ e h. getD-set-other w (n + y .members) (3 * n + e) v 0 (λ q. omega arith) ∙ at .kept .candidates e h;
         }
 
-    pub lent-next : SearchFits n t ranks taken
+    pub lent-next : SearchFits n t degrees taken
     lent-next =
         let parts = at .lent .parts in
         let l = taken-kept .state .length-kept in
-        record { table = at .lent .table; ranks-fit = at .lent .ranks-fit; degrees = at .lent .degrees; parts = omega arith }
+        record { table = at .lent .table; degrees-fit = at .lent .degrees-fit; degrees = at .lent .degrees; parts = omega arith }
 
     pub room-next : (from : ℕ) → j + 1 ≤ from → Room n taken s z base from m
     room-next from past = subst (λ (x : Tally). Room n taken s x base from m) (sym (adds .more)) with-it
@@ -242,7 +242,7 @@ module _ {n : ℕ} {t ranks w₀ : List ℕ} {s : Settings} {y : Tally} {base i 
           (cut-deeper _ _ _ _ _ _ _ _ candidates j (in-list inside) hopeful joined (sym answer-deep ∙ e))
 
       -- passed over, where neither finds anything
-      pub at-next : isolatedOf s z ≡ false → r ≡ false → At n t ranks w₀ s y base i m w₁ (j + 1)
+      pub at-next : isolatedOf s z ≡ false → r ≡ false → At n t degrees w₀ s y base i m w₁ (j + 1)
       at-next e f =
           passes kept-deep
           (cut-next _ _ _ _ _ _ _ _ candidates j (in-list inside) hopeful (ap (isolatedOf s) (sym with-degree) ∙ e) (sym answer-deep ∙ f))

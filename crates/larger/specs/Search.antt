@@ -9,17 +9,17 @@ use Rattle.model.specs.Groups.{VertexSet}
 use Rattle.model.specs.Meaning.{Clique, Loopless, Symmetric}
 use Rattle.theory.specs.Search.{Candidates}
 use Rattle.graph.specs.Table.{TableFits, graphOf}
-use Rattle.ranks.specs.Ranks.{RanksFit, HoldsDegrees}
+use Rattle.graph.specs.Degrees.{DegreesFit, HoldsDegrees}
 use Rattle.isolation.specs.declared.Settings.{Settings}
 use Rattle.isolation.specs.declared.Tally.{Tally}
 use Rattle.isolation.specs.Numbers.{FactorFits, findOf, beatenOf, TallyOf}
 use Rattle.theory.specs.Parts.{part, membersAt, candidatesAt, SamePart, StateKept, HoldsVertices}
 
--- the table holds a graph of n vertices, the ranks its degrees, and the work slice has the parts 0 to 3
-pub record SearchFits (n : ℕ) (t ranks w : List ℕ) : Type 0 where
+-- the table holds a graph of n vertices, the list its degrees, and the work slice has the parts 0 to 3
+pub record SearchFits (n : ℕ) (t d w : List ℕ) : Type 0 where
   pub table : TableFits n t
-  pub ranks-fit : RanksFit n ranks
-  pub degrees : HoldsDegrees n (graphOf n t) ranks
+  pub degrees-fit : DegreesFit n d
+  pub degrees : HoldsDegrees n (graphOf n t) d
   pub parts : 4 * n ≤ length w
 
 -- A state of the search: of the members with the numbers y those from place base on in part 1 were added by it, and candidates i to m - 1 of part 3

@@ -17,7 +17,7 @@ use Rattle.theory.specs.Search.{joinedAll, among, Members}
 use Rattle.theory.proofs.basics.Tests.{Test, test-all, test-self, trichotomy, fails}
 use Rattle.theory.proofs.search.Candidates.{joined-test}
 use Rattle.theory.proofs.search.Members.{tally-none, tally-next, tally-all}
-use Rattle.ranks.specs.Ranks.{HoldsDegrees, ReadsDegree}
+use Rattle.graph.specs.Degrees.{HoldsDegrees, ReadsDegree}
 use Rattle.isolation.specs.declared.Tally.{Tally}
 use Rattle.isolation.specs.Numbers.{withMember, TallyOf}
 use Rattle.theory.specs.Parts.{part}
@@ -116,24 +116,24 @@ clique-test G symmetric S us M some = (there, back)
 
 -- y holds the numbers of the first i members
 abbrev pub TalliesFirst : ℕ → List ℕ → List ℕ → ℕ → Tally → Type 0
-TalliesFirst n ranks us i y = (G : Graph) → G .size ≡ n → HoldsDegrees n G ranks → (S : VertexSet) → Members G S us → TallyOf G (among (take i us)) y
+TalliesFirst n degrees us i y = (G : Graph) → G .size ≡ n → HoldsDegrees n G degrees → (S : VertexSet) → Members G S us → TallyOf G (among (take i us)) y
 
-module _ {n : ℕ} {w : List ℕ} {k : ℕ} (held : HoldsMembers n w k) (ranks : List ℕ) where
+module _ {n : ℕ} {w : List ℕ} {k : ℕ} (held : HoldsMembers n w k) (degrees : List ℕ) where
   long : length (part w n k) ≡ k
   long = let f = held .few in let l = held .parts in part-length w n k (omega arith)
 
-  pub tallies-none : TalliesFirst n ranks (part w n k) 0 (record { members = 0; sum = 0; least = n; largest = 0 })
+  pub tallies-none : TalliesFirst n degrees (part w n k) 0 (record { members = 0; sum = 0; least = n; largest = 0 })
   tallies-none G size d S M = subst (λ (m : ℕ). TallyOf G (among []) (record { members = 0; sum = 0; least = m; largest = 0 })) size (tally-none G)
 
   -- with the member v at place i, of degree d
-  pub tallies-more : (i : ℕ) → i < k → {y z : Tally} → TalliesFirst n ranks (part w n k) i y → {v d : ℕ} → v ≡ getD w (n + i) 0 → ReadsDegree n ranks v d
-      → z ≡ withMember y d → TalliesFirst n ranks (part w n k) (i + 1) z
+  pub tallies-more : (i : ℕ) → i < k → {y z : Tally} → TalliesFirst n degrees (part w n k) i y → {v d : ℕ} → v ≡ getD w (n + i) 0 → ReadsDegree n degrees v d
+      → z ≡ withMember y d → TalliesFirst n degrees (part w n k) (i + 1) z
   tallies-more i h {y} {z} f r q e G size d S M =
       subst (λ (x : Tally). TallyOf G (among (take (i + 1) (part w n k))) x)
       (sym (e ∙ ap (withMember y) (q .degree G size d .0 ∙ ap (degree G) (r ∙ sym (part-at w n k i h)))))
       (tally-next G S (part w n k) M i (let s = long in omega arith) (y .members) (y .sum) (y .least) (y .largest) (f G size d S M))
 
-  pub tallies-all : (i : ℕ) → i ≤ k → k ≤ i → {y : Tally} → TalliesFirst n ranks (part w n k) i y → Tallies n ranks (part w n k) y
+  pub tallies-all : (i : ℕ) → i ≤ k → k ≤ i → {y : Tally} → TalliesFirst n degrees (part w n k) i y → Tallies n degrees (part w n k) y
   tallies-all i h l {y} f G size d S M =
       tally-all G S (part w n k) M (y .members) (y .sum) (y .least) (y .largest)
       (subst (λ (m : ℕ). TallyOf G (among (take m (part w n k))) y) whole (f G size d S M))

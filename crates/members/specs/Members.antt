@@ -10,9 +10,14 @@ use Rattle.model.specs.Graph.{Graph}
 use Rattle.model.specs.Groups.{VertexSet}
 use Rattle.theory.specs.Parts.{part, membersAt, HoldsVertices}
 use Rattle.theory.specs.Search.{joinedAll, Members}
-use Rattle.ranks.specs.Ranks.{HoldsDegrees}
+use Rattle.graph.specs.Degrees.{HoldsDegrees}
 use Rattle.isolation.specs.declared.Tally.{Tally}
 use Rattle.isolation.specs.Numbers.{TallyOf}
+
+-- n is at most 1,024, and the work slice has the parts 0 and 1
+pub record MembersFit (n : ℕ) (w : List ℕ) : Type 0 where
+  pub small : n ≤ 1024
+  pub parts : 2 * n ≤ length w
 
 -- the work slice has the parts 0 to 3, and the first k entries of part 1 are vertices of a graph of n
 pub record HoldsMembers (n : ℕ) (w : List ℕ) (k : ℕ) : Type 0 where
@@ -30,6 +35,6 @@ pub record MembersIn (n : ℕ) (l before after : List ℕ) (k : ℕ) : Type 0 wh
 unfoldable pub pairwise : Graph → List ℕ → Bool
 pairwise G us = all (length us) (λ i. joinedAll G (getD us i 0) (take i us))
 
--- y holds the numbers of every set with these members, in every graph of n vertices whose degrees the ranks hold
+-- y holds the numbers of every set with these members, in every graph of n vertices whose degrees the list holds
 abbrev pub Tallies : ℕ → List ℕ → List ℕ → Tally → Type 0
-Tallies n ranks us y = (G : Graph) → G .size ≡ n → HoldsDegrees n G ranks → (S : VertexSet) → Members G S us → TallyOf G S y
+Tallies n degrees us y = (G : Graph) → G .size ≡ n → HoldsDegrees n G degrees → (S : VertexSet) → Members G S us → TallyOf G S y

@@ -5,18 +5,18 @@ ghost use Rattle.model.specs.Below.{passing};
 ghost use Rattle.model.specs.Listing.{is};
 ghost use Rattle.theory.specs.Search.{joinedAll};
 ghost use Rattle.graph.specs.Table.{TableFits, graphOf};
-ghost use Rattle.ranks.specs.Ranks.{RanksFit};
+ghost use Rattle.graph.specs.Degrees.{DegreesFit};
 ghost use Rattle.theory.specs.Parts.{part, membersAt, CandidatesIn};
-ghost use Rattle.members.specs.Members.{HoldsMembers, MembersIn, pairwise, Tallies};
+ghost use Rattle.members.specs.Members.{MembersFit, HoldsMembers, MembersIn, pairwise, Tallies};
+use graph::degree_at;
 use graph::entry_at;
 use isolation::Tally;
 use isolation::with_member;
 use larger::joined_to_all;
-use ranks::degree_at;
 
 // Writes the vertices of n whose byte in set is 1 into part 1 of work, lowest first, and gives how many they are. Reads set.
 pub fn members_of(set: &[u8], n: usize, work: &mut [u16]) -> usize
-    requires { ⌜ RanksFit n (now work) × (length (now set) ≡ n) ⌝ }
+    requires { ⌜ MembersFit n (now work) × (length (now set) ≡ n) ⌝ }
     ensures { λ k. ⌜ MembersIn n (passing n (is 1 (now (set .entry)))) (now (work .entry)) (now (work .exit)) k ⌝ }
 {
     let mut k: usize = 0;
@@ -48,10 +48,10 @@ pub fn pairwise_joined(table: &[u8], n: usize, work: &[u16], k: usize) -> bool
     true
 }
 
-// The numbers of the set whose k members stand in part 1 of work, by the degrees in part 1 of ranks; n is the number of vertices. Reads both.
-pub fn tally_of(ranks: &[u16], n: usize, work: &[u16], k: usize) -> Tally
-    requires { ⌜ RanksFit n (now ranks) × HoldsMembers n (now work) k ⌝ }
-    ensures { λ y. ⌜ Tallies n (now (ranks .entry)) (part (now (work .entry)) (membersAt n) k) y ⌝ }
+// The numbers of the set whose k members stand in part 1 of work, by a list of degrees; n is the number of vertices. Reads both.
+pub fn tally_of(degrees: &[u16], n: usize, work: &[u16], k: usize) -> Tally
+    requires { ⌜ DegreesFit n (now degrees) × HoldsMembers n (now work) k ⌝ }
+    ensures { λ y. ⌜ Tallies n (now (degrees .entry)) (part (now (work .entry)) (membersAt n) k) y ⌝ }
 {
     let mut y = Tally {
         members: 0,
@@ -62,7 +62,7 @@ pub fn tally_of(ranks: &[u16], n: usize, work: &[u16], k: usize) -> Tally
     let mut i = 0;
     while i < k {
         let v = entry_at(work, n + i);
-        let d = degree_at(ranks, n, v);
+        let d = degree_at(degrees, n, v);
         y = with_member(y, d);
         i += 1;
     }

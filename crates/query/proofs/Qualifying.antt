@@ -22,14 +22,13 @@ use Rattle.theory.proofs.basics.Passing.{passing-listed, passing-has, passing-o
 use Rattle.theory.proofs.basics.PassingParts.{passing-same, passing-count}
 use Rattle.theory.proofs.search.Members.{common-list}
 use Rattle.theory.proofs.search.Maximal.{qualifies-tally}
-use Rattle.ranks.specs.Ranks.{RanksFit}
 use Rattle.isolation.specs.declared.Settings.{Settings}
 use Rattle.isolation.specs.declared.Tally.{Tally}
 use Rattle.isolation.specs.Numbers.{settingsOf, Small, isolatedOf, beatenOf, TallyOf}
 use Rattle.input.proofs.Refusals.{InputPassed}
 use Rattle.theory.specs.Parts.{part, membersAt, candidatesAt, CandidatesIn}
 use Rattle.larger.specs.Search.{SearchFits, Posed, Tested}
-use Rattle.members.specs.Members.{HoldsMembers, MembersIn, pairwise, Tallies}
+use Rattle.members.specs.Members.{MembersFit, HoldsMembers, MembersIn, pairwise, Tallies}
 use Rattle.query.specs.Query.{QueryReady, Decided}
 use Rattle.theory.proofs.basics.Parts.{part-length, part-at}
 use Rattle.graph.specs.Table.{graphOf}
@@ -57,15 +56,15 @@ both-fit G S =
 
 -- ---- one set query that is accepted
 
-module _ {n : ℕ} {t ranks bs w₀ : List ℕ} {s : Settings} (ready : QueryReady n t ranks bs w₀ s) where
+module _ {n : ℕ} {t d bs w₀ : List ℕ} {s : Settings} (ready : QueryReady n t d bs w₀ s) where
   abbrev graph : Graph
   graph = graphOf n t
 
   abbrev members : VertexSet
   members = byBytes bs
 
-  pub accepted : InputPassed n t s (length bs) (length w₀)
-  accepted = query-accepted n t s bs (length w₀) (ready .accepted)
+  pub accepted : InputPassed n t d s (length bs) (length w₀)
+  accepted = query-accepted n t d s bs (length w₀) (ready .accepted)
 
   loopless : Loopless graph
   loopless = accepted .simple .loopless
@@ -73,7 +72,7 @@ module _ {n : ℕ} {t ranks bs w₀ : List ℕ} {s : Settings} (ready : QueryRea
   symmetric : Symmetric graph
   symmetric = accepted .simple .symmetric
 
-  pub work-fits : RanksFit n w₀
+  pub work-fits : MembersFit n w₀
   work-fits = record { small = accepted .fits .small; parts = let r = accepted .enough in omega arith }
 
   -- after the members were written
@@ -124,14 +123,14 @@ module _ {n : ℕ} {t ranks bs w₀ : List ℕ} {s : Settings} (ready : QueryRea
     pub record Counted (y : Tally) : Type 0 where
       pub some : k ≢ 0
       pub joined : pairwise graph (part w₁ (membersAt n) k) ≡ true
-      pub tallies : Tallies n ranks (part w₁ (membersAt n) k) y
+      pub tallies : Tallies n d (part w₁ (membersAt n) k) y
 
     module _ {y : Tally} (counted : Counted y) where
       clique : Clique graph members
       clique = cliques (counted .some) .0 (counted .joined)
 
       tally : TallyOf graph members y
-      tally = counted .tallies graph refl (ready .degrees) members has-members
+      tally = counted .tallies graph refl (accepted .degrees) members has-members
 
       -- what the isolation test requires
       pub small-numbers : Small s (y .members)
@@ -168,10 +167,10 @@ module _ {n : ℕ} {t ranks bs w₀ : List ℕ} {s : Settings} (ready : QueryRea
         has-candidates = subst (λ (vs : List ℕ). Candidates graph members vs) (sym candidates-are) (passing-candidates graph members)
 
         -- what `beaten` requires
-        pub beaten-asks : SearchFits n t ranks w₂ × Posed n t w₂ s y m
+        pub beaten-asks : SearchFits n t d w₂ × Posed n t w₂ s y m
         beaten-asks =
             let l = long in (
-              record { table = accepted .fits; ranks-fit = ready .ranks-fit; degrees = ready .degrees; parts = omega arith },
+              record { table = accepted .fits; degrees-fit = accepted .degrees-fit; degrees = accepted .degrees; parts = omega arith },
               record {
                 set = members;
                 factor = accepted .factor;

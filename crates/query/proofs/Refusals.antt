@@ -16,7 +16,7 @@ use Rattle.isolation.specs.Numbers.{settingsOf}
 use Rattle.input.proofs.Refusals.{InputPassed, input-passed}
 
 module _ (L : LentGraph) (s : Settings) (bs : List ℕ) (work : ℕ) where
-  -- refused with one of 1 to 10
+  -- refused with one of 1 to 5, 42 and 6 to 10
   pub query-input : {r : ℕ} → r ≡ refuseInput L s (length bs) work → r ≢ 0 → r ≡ refuseQuery L s bs work
   unfolding refuseQuery
   query-input e d = e ∙ sym (else-found (λ z. d (e ∙ z)) _)
@@ -26,7 +26,7 @@ module _ (L : LentGraph) (s : Settings) (bs : List ℕ) (work : ℕ) where
   unfolding refuseQuery
   query-bytes e z o = sym (else-none (sym e ∙ z) _ ∙ rw o)
 
--- an accepted set query passes 1 to 10
-pub query-accepted : (n : ℕ) (t : List ℕ) (q : code.Settings) (bs : List ℕ) (work : ℕ) → refuseQuery (lent n t) (settingsOf q) bs work ≡ 0 → InputPassed n t q (length bs) work
+-- an accepted set query passes these
+pub query-accepted : (n : ℕ) (t d : List ℕ) (q : code.Settings) (bs : List ℕ) (work : ℕ) → refuseQuery (lent n t d) (settingsOf q) bs work ≡ 0 → InputPassed n t d q (length bs) work
 unfolding refuseQuery
-query-accepted n t q bs work h = input-passed n t q (length bs) work (else-passed (refuseInput (lent n t) (settingsOf q) (length bs) work) _ h .0)
+query-accepted n t d q bs work h = input-passed n t d q (length bs) work (else-passed (refuseInput (lent n t d) (settingsOf q) (length bs) work) _ h .0)

@@ -11,17 +11,14 @@ use Rattle.model.specs.Graph.{Graph, LentGraph}
 use Rattle.model.specs.Groups.{settings, qualifies}
 use Rattle.model.specs.Groups as groups
 use Rattle.model.specs.Calls.{byBytes, refuseQuery, answerTo}
-use Rattle.graph.specs.Table.{lent, graphOf}
-use Rattle.ranks.specs.Ranks.{RanksFit, HoldsDegrees}
+use Rattle.graph.specs.Table.{lent}
 use Rattle.isolation.specs.declared.Settings.{Settings}
 use Rattle.query.specs.declared.SetAnswer.{SetAnswer}
 use Rattle.isolation.specs.Numbers.{settingsOf}
 
--- the call is accepted, and the ranks hold the degrees
-pub record QueryReady (n : ℕ) (t ranks bs w : List ℕ) (s : Settings) : Type 0 where
-  pub accepted : refuseQuery (lent n t) (settingsOf s) bs (length w) ≡ 0
-  pub ranks-fit : RanksFit n ranks
-  pub degrees : HoldsDegrees n (graphOf n t) ranks
+-- the call is accepted
+pub record QueryReady (n : ℕ) (t d bs w : List ℕ) (s : Settings) : Type 0 where
+  pub accepted : refuseQuery (lent n t d) (settingsOf s) bs (length w) ≡ 0
 
 -- whether the set qualifies, and the work slice as long as before
 pub record Decided (G : Graph) (bs before after : List ℕ) (s : groups.Settings) (r : Bool) : Type 0 where

@@ -20,12 +20,19 @@ pub struct SetAnswer {
     pub yes: u32,
 }
 
-// The refusal number of a set query with a work slice of `length` entries: 1 to 11 of document 01, "Turned back by the input", lowest number first, and
-// 0 where all tests pass. Reads the table and the set.
-fn query_refusal(table: &[u8], set: &[u8], length: usize, n: usize, s: Settings) -> u32
-    ensures { λ r. ⌜ r ≡ refuseQuery (lent n (now (table .entry))) (settingsOf s) (now (set .entry)) length ⌝ }
+// The refusal number of a set query with a work slice of `length` entries: 1 to 5, 42 and 6 to 11 of document 01, "Turned back by the input", and document
+// 02, C-12, in this order, and 0 where all tests pass. Reads the table, the degrees and the set.
+fn query_refusal(
+    table: &[u8],
+    degrees: &[u16],
+    set: &[u8],
+    length: usize,
+    n: usize,
+    s: Settings,
+) -> u32
+    ensures { λ r. ⌜ r ≡ refuseQuery (lent n (now (table .entry)) (now (degrees .entry))) (settingsOf s) (now (set .entry)) length ⌝ }
 {
-    let of_input = input_refusal(table, n, s, set.len(), length);
+    let of_input = input_refusal(table, degrees, n, s, set.len(), length);
     if of_input != 0 {
         return of_input;
     }
@@ -35,17 +42,17 @@ fn query_refusal(table: &[u8], set: &[u8], length: usize, n: usize, s: Settings)
     0
 }
 
-// Whether the set qualifies, where the call is not refused and part 1 of ranks holds the degrees: document 002, definitions 1 and 2, a clique that is
+// Whether the set qualifies, where the call is not refused: document 002, definitions 1 and 2, a clique that is
 // isolated and that no larger one of its kind contains. Reads the table, the degrees and the set; writes parts 1 and 3 of work.
 fn set_qualifies(
     table: &[u8],
-    ranks: &[u16],
+    degrees: &[u16],
     set: &[u8],
     work: &mut [u16],
     n: usize,
     s: Settings,
 ) -> bool
-    requires { ⌜ QueryReady n (now table) (now ranks) (now set) (now work) s ⌝ }
+    requires { ⌜ QueryReady n (now table) (now degrees) (now set) (now work) s ⌝ }
     ensures { λ r. ⌜ Decided (graphOf n (now (table .entry))) (now (set .entry)) (now (work .entry)) (now (work .exit)) (settingsOf s) r ⌝ }
 {
     let k = members_of(set, n, work);
@@ -55,18 +62,19 @@ fn set_qualifies(
     if !pairwise_joined(table, n, work, k) {
         return false;
     }
-    let y = tally_of(ranks, n, work, k);
+    let y = tally_of(degrees, n, work, k);
     if !isolated_by(s, y) {
         return false;
     }
     let m = common_neighbours(table, n, work, k);
-    !beaten(table, ranks, work, n, s, y, m)
+    !beaten(table, degrees, work, n, s, y, m)
 }
 
-// The set query, for arguments of any length and contents: table, set (n bytes, 1 for a member), a work slice, n, notion, kind and the factor c. Reads
-// the table and the set; writes work only where the call is accepted.
+// The set query, for arguments of any length and contents: table, the degrees of its graph, set (n bytes, 1 for a member), a work slice, n, notion, kind
+// and the factor c. Reads the table, the degrees and the set; writes work only where the call is accepted.
 pub fn set_query(
     table: &[u8],
+    degrees: &[u16],
     set: &[u8],
     work: &mut [u16],
     n: usize,
@@ -74,20 +82,18 @@ pub fn set_query(
     kind: u32,
     c: u32,
 ) -> SetAnswer
-    ensures { λ r. ⌜ Answers (lent n (now (table .entry))) (now (set .entry)) (now (work .entry)) (now (work .exit)) notion kind c r ⌝ }
+    ensures { λ r. ⌜ Answers (lent n (now (table .entry)) (now (degrees .entry))) (now (set .entry)) (now (work .entry)) (now (work .exit)) notion kind c r ⌝ }
 {
     let s = Settings {
         notion,
         kind,
         factor: c,
     };
-    let refusal = query_refusal(table, set, work.len(), n, s);
+    let refusal = query_refusal(table, degrees, set, work.len(), n, s);
     if refusal != 0 {
         return SetAnswer { refusal, yes: 0 };
     }
-    let mut ranks = [0u16; 2048];
-    ranks::fill_degrees(table, n, &mut ranks);
-    if set_qualifies(table, &ranks, set, work, n, s) {
+    if set_qualifies(table, degrees, set, work, n, s) {
         return SetAnswer { refusal: 0, yes: 1 };
     }
     SetAnswer { refusal: 0, yes: 0 }

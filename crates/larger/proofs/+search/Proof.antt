@@ -16,7 +16,7 @@ use Rattle.isolation.proofs.hopeless.Reads as hopeless-reads
 use Rattle.isolation.proofs.isolated_by.Reads as isolated-by-reads
 use Rattle.larger.proofs.joined_to_all.Reads as joined-to-all-reads
 use Rattle.isolation.proofs.with_member.Reads as with-member-reads
-use Rattle.ranks.proofs.degree_at.Reads as degree-at-reads
+use Rattle.graph.proofs.degree_at.Reads as degree-at-reads
 use Rattle.larger.proofs.+search.{statement}
 use Rattle.larger.proofs.+search.Tie.{close}
 
@@ -50,10 +50,10 @@ claims t = (
 )
 
 abbrev search-Inv-loop : search-lts.InvT-loop
-search-Inv-loop table ranks work₀ n s y base i m first end j₀ work j = At n table ranks work₀ s y base i m work j
+search-Inv-loop table degrees work₀ n s y base i m first end j₀ work j = At n table degrees work₀ s y base i m work j
 
 abbrev search-μ-loop : search-lts.MeasureT-loop
-search-μ-loop table ranks work₀ n s y base i m first end j₀ work j = m - j
+search-μ-loop table degrees work₀ n s y base i m first end j₀ work j = m - j
 
 search-loop-holds : (t : ℕ) → search-lts.Need-loop-holds (claims t) (search-at t) search′.Post search-Inv-loop search-μ-loop
 search-loop-holds t c =
@@ -86,7 +86,7 @@ search-degree-at-requires : (t : ℕ) → search-lts.Need-degree-at-requires (cl
 search-degree-at-requires t c κs =
     let read = c .before .before .before in
     let turn = read .before .before .before .before in
-    (turn .before .before .before .before .before .before .pre .1 .0 .ranks-fit, candidate-vertex (turn .before .loop .inv) (turn .loop-test .taken) (read .entry-at .ensures))
+    (turn .before .before .before .before .before .before .pre .1 .0 .degrees-fit, candidate-vertex (turn .before .loop .inv) (turn .loop-test .taken) (read .entry-at .ensures))
 
 -- where the numbers with the candidate are known it is added
 adds : (t : ℕ) (c : search-lts.After-with-member (claims t) (search-at t) search′.Post search-Inv-loop search-μ-loop)

@@ -10,15 +10,15 @@ use Rattle.members.proofs.tally_of.Statement.{statement}
 use Rattle.members.proofs.tally_of.Tie as tie
 
 abbrev Inv-loop : tie.InvT-loop
-Inv-loop ranks n work k y₀ i₀ y i = (i ≤ k) × (y .members ≡ i) × (y .sum ≤ 65535 * i) × TalliesFirst n ranks (part work n k) i y
+Inv-loop degrees n work k y₀ i₀ y i = (i ≤ k) × (y .members ≡ i) × (y .sum ≤ 65535 * i) × TalliesFirst n degrees (part work n k) i y
 
 abbrev μ-loop : tie.MeasureT-loop
-μ-loop ranks n work k y₀ i₀ y i = k - i
+μ-loop degrees n work k y₀ i₀ y i = k - i
 
 loop-holds : tie.Need-loop-holds Inv-loop μ-loop
 loop-holds c =
     let start = c .before .before in
-    (omega arith, omega arith, omega arith, tallies-none (start .pre .1) (start .args .ranks .now))
+    (omega arith, omega arith, omega arith, tallies-none (start .pre .1) (start .args .degrees .now))
 
 degree-at-requires : tie.Need-degree-at-requires Inv-loop μ-loop
 degree-at-requires c κs =
@@ -33,14 +33,14 @@ loop-again c =
     let e = c .with-member .ensures in
     let k = ap (λ (x : Tally). x .members) e in
     let s = ap (λ (x : Tally). x .sum) e in
-    let more = tallies-more (start .pre .1) (start .args .ranks .now) (turn .before .loop .i) (turn .loop-test .taken) (turn .before .loop .inv .3) (c .before .before .entry-at .ensures) (c .before .degree-at .ensures) e in
+    let more = tallies-more (start .pre .1) (start .args .degrees .now) (turn .before .loop .i) (turn .loop-test .taken) (turn .before .loop .inv .3) (c .before .before .entry-at .ensures) (c .before .degree-at .ensures) e in
     (omega arith, omega arith, omega arith, more)
 
 returns : tie.Need-returns Inv-loop μ-loop
 returns c =
     let start = c .before .before .before .before in
     let l = c .before .loop in
-    tallies-all (start .pre .1) (start .args .ranks .now) (l .i) (l .inv .0) (c .loop-test .left) (l .inv .3)
+    tallies-all (start .pre .1) (start .args .degrees .now) (l .i) (l .inv .0) (c .loop-test .left) (l .inv .3)
 
 pub tally-of-spec : {M : Type 1} → statement M
 tally-of-spec =

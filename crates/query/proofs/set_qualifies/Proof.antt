@@ -38,7 +38,7 @@ tally-of-requires : tie.Need-tally-of-requires
 tally-of-requires c κs =
     let wrote = c .before .before .before .before .before .before .before in
     let ready = wrote .before .before .before .before .before .before .pre in
-    (ready .ranks-fit, holds-members ready (wrote .members-of .ensures))
+    (accepted ready .degrees-fit, holds-members ready (wrote .members-of .ensures))
 
 -- where the numbers are known there are members, pairwise joined
 counted : (c : tie.After-tally-of) → Counted (c .before .before .before .before .before .before .before .before .before .before .before .before .before .before .pre) (c .before .before .before .before .before .before .before .before .members-of .ensures) (c .tally-of .result)
