@@ -22,7 +22,7 @@ use Rattle.emit.specs.Emit.{Emitted}
 use Rattle.qualify.proofs.TakenSet.{due-found, due-none}
 use Rattle.qualify.proofs.Verdicts.{length-taken}
 
-module _ {n : ℕ} {t ranks w w₁ : List ℕ} {q : Settings} {s : State} {b : Bool} (a : Asks n t ranks w q s) (j : SaysQualifies n t w w₁ q s b) (out : List ℕ) (used : ℕ) where
+module _ {n : ℕ} {t degrees order w w₁ : List ℕ} {q : Settings} {s : State} {b : Bool} (a : Asks n t degrees order w q s) (j : SaysQualifies n t w w₁ q s b) (out : List ℕ) (used : ℕ) where
   abbrev G : Graph
   G = graphOf n t
 

@@ -27,17 +27,18 @@ pub fn emit(
     s: State,
     q: Settings,
     table: &[u8],
-    ranks: &[u16],
+    degrees: &[u16],
+    order: &[u16],
     work: &mut [u16],
     n: usize,
     output: &mut [u16],
     used: usize,
 ) -> Put
-    requires { ⌜ Asks n (now table) (now ranks) (now work) q s × (used ≤ length (now output)) ⌝ }
+    requires { ⌜ Asks n (now table) (now degrees) (now order) (now work) q s × (used ≤ length (now output)) ⌝ }
     ensures { λ r. ⌜ Emitted n (now (table .entry)) (now (work .entry)) (now (work .exit)) q s used (now (output .entry)) (now (output .exit)) r ⌝ }
 {
     let k = s.taken;
-    if !qualifies(s, q, table, ranks, work, n) {
+    if !qualifies(s, q, table, degrees, order, work, n) {
         return Put {
             full: false,
             used,
@@ -54,10 +55,11 @@ pub fn emit(
             wanted: entries,
         };
     }
+    let end = used + entries;
     put_group(output, used, work, n, k);
     Put {
         full: false,
-        used: used + entries,
+        used: end,
         groups: 1,
         wanted: 0,
     }

@@ -12,40 +12,43 @@ use isolation::Settings;
 use position::Opening;
 use position::no_opening;
 use position::position_refusal;
-use ranks::prepare;
+use ranks::fill_order;
 use rounds::PageAnswer;
 use rounds::run;
 use state::State;
 use state::go_on;
 
 // The refusal number of a page call with a work slice of `work` entries, and where it is 0 the state of the position with its last decided rank opened.
-// Reads the table and the position, and writes `ranks` and `memory` alone: where the number is 0 they then hold the graph's ranks, and the state's parts.
-// Document 01, "Turned back by the state": 21 to 23 are tested after 1 to 10.
+// Reads the table, the degrees and the position, and writes `order` and `memory` alone: where the number is 0 they then hold the graph's rank order, and the
+// state's parts.
+// Document 01, "Turned back by the state": 21 to 23 are tested after 1 to 5, 42 and 6 to 10.
 pub fn page_refusal(
     table: &[u8],
+    degrees: &[u16],
     n: usize,
     q: Settings,
     position: &[u8],
     work: usize,
-    ranks: &mut [u16],
+    order: &mut [u16],
     memory: &mut [u16],
 ) -> Opening
-    requires { ⌜ (length (now ranks) ≡ 2048) × (length (now memory) ≡ 8192) ⌝ }
-    ensures { λ r. ⌜ PageJudged n (now (table .entry)) q (now (position .entry)) work (now (ranks .exit)) (now (memory .exit)) r ⌝ }
+    requires { ⌜ (length (now order) ≡ 1024) × (length (now memory) ≡ 8192) ⌝ }
+    ensures { λ r. ⌜ PageJudged n (now (table .entry)) (now (degrees .entry)) q (now (position .entry)) work (now (order .exit)) (now (memory .exit)) r ⌝ }
 {
-    let a = input_refusal(table, n, q, position.len(), work);
+    let a = input_refusal(table, degrees, n, q, position.len(), work);
     if a != 0 {
         return no_opening(a);
     }
-    prepare(table, n, ranks);
-    position_refusal(table, ranks, n, q, position, memory)
+    fill_order(degrees, n, order);
+    position_refusal(table, degrees, order, n, q, position, memory)
 }
 
-// The walk of an accepted call: the state goes on from `memory` in the work slice, and then the rounds are made. Reads the table, the ranks and the memory;
+// The walk of an accepted call: the state goes on from `memory` in the work slice, and then the rounds are made. Reads the table, the degrees, the order and the memory;
 // writes the position, the output and the work slice.
 pub fn walk_on(
     table: &[u8],
-    ranks: &[u16],
+    degrees: &[u16],
+    order: &[u16],
     memory: &[u16],
     position: &mut [u8],
     output: &mut [u16],
@@ -55,14 +58,16 @@ pub fn walk_on(
     opened: State,
     budget: u32,
 ) -> PageAnswer
-    requires { ⌜ Accepted n (now table) q (now position) (length (now work)) (now ranks) (now memory) opened ⌝ }
+    requires { ⌜ Accepted n (now table) (now degrees) q (now position) (length (now work)) (now order) (now memory) opened ⌝ }
     ensures { λ r. ⌜
-        PageCalled (lent n (now (table .entry))) (settingsOf q) budget (now (position .entry)) (now (output .entry)) (now (work .entry))
+        PageCalled (lent n (now (table .entry)) (now (degrees .entry))) (settingsOf q) budget (now (position .entry)) (now (output .entry)) (now (work .entry))
         r (now (position .exit)) (now (output .exit)) (now (work .exit))
         ⌝ }
 {
-    let first = go_on(opened, table, ranks, n, position, memory, work);
-    run(table, ranks, position, output, work, n, q, first, budget)
+    let first = go_on(opened, table, degrees, order, n, position, memory, work);
+    run(
+        table, degrees, order, position, output, work, n, q, first, budget,
+    )
 }
 
 // The answer of a refused call: document 01, "Turned back by the input": all other numbers in the answer are 0.
@@ -79,11 +84,13 @@ fn turned_back(number: u32) -> PageAnswer
     }
 }
 
-// The page call, of any arguments. A refused call leaves the position, the output and the work slice as they were; an accepted one walks on from the
+// The page call, of any arguments: table, the degrees of its graph, position, output, a work slice, n, notion, kind, the factor c and the budget. It reads
+// the table and the degrees. A refused call leaves the position, the output and the work slice as they were; an accepted one walks on from the
 // position, at most as many steps as the budget has, and puts the groups that it passes into the output.
 // Nothing that is lent is written before all refusals have passed.
 pub fn page(
     table: &[u8],
+    degrees: &[u16],
     position: &mut [u8],
     output: &mut [u16],
     work: &mut [u16],
@@ -94,7 +101,7 @@ pub fn page(
     budget: u32,
 ) -> PageAnswer
     ensures { λ r. ⌜
-        PageCalled (lent n (now (table .entry))) (settings notion kind c) budget (now (position .entry)) (now (output .entry)) (now (work .entry))
+        PageCalled (lent n (now (table .entry)) (now (degrees .entry))) (settings notion kind c) budget (now (position .entry)) (now (output .entry)) (now (work .entry))
         r (now (position .exit)) (now (output .exit)) (now (work .exit))
         ⌝ }
 {
@@ -103,15 +110,25 @@ pub fn page(
         kind,
         factor: c,
     };
-    let mut ranks = [0u16; 2048];
+    let mut order = [0u16; 1024];
     let mut memory = [0u16; 8192];
-    let found = page_refusal(table, n, q, position, work.len(), &mut ranks, &mut memory);
+    let found = page_refusal(
+        table,
+        degrees,
+        n,
+        q,
+        position,
+        work.len(),
+        &mut order,
+        &mut memory,
+    );
     if found.refusal != 0 {
         return turned_back(found.refusal);
     }
     walk_on(
         table,
-        &ranks,
+        degrees,
+        &order,
         &memory,
         position,
         output,

@@ -1,4 +1,4 @@
-// The refusals of a position, 21 to 23: document 01, "Turned back by the state". They read the table, the rank order and the position, and write only the
+// The refusals of a position, 21 to 23: document 01, "Turned back by the state". They read the table, the degrees, the rank order and the position, and write only the
 // memory that the state of the position is built in. Document 01, "The walk": a position has one byte a rank, 0 open, 1 taken and 2 left.
 ghost use mathlib.Core.Path.{_≡_};
 ghost use Prim.Native.Nat.{_*_, _≤_};
@@ -72,13 +72,14 @@ pub fn no_opening(number: u32) -> Opening
 // last decided rank is built in `memory`, and with 0 it is handed on. Reads the position.
 pub fn position_refusal(
     table: &[u8],
-    ranks: &[u16],
+    degrees: &[u16],
+    order: &[u16],
     n: usize,
     q: Settings,
     position: &[u8],
     memory: &mut [u16],
 ) -> Opening
-    requires { ⌜ HoldsRanks n (now table) (now ranks) × FactorFits q × (length (now position) ≡ n) × (8 * n ≤ length (now memory)) ⌝ }
+    requires { ⌜ HoldsRanks n (now table) (now degrees) (now order) × FactorFits q × (length (now position) ≡ n) × (8 * n ≤ length (now memory)) ⌝ }
     ensures { λ r. ⌜ PositionJudged (graphOf n (now (table .entry))) q (now (position .entry)) (now (memory .exit)) r ⌝ }
 {
     if any_over(2, position) {
@@ -88,7 +89,7 @@ pub fn position_refusal(
         return no_opening(22);
     }
     let last = less(decided_count(position), 1);
-    let s = rebuild(table, ranks, n, position, last, memory);
+    let s = rebuild(table, degrees, order, n, position, last, memory);
     if is_dead(s, q, memory) {
         return no_opening(23);
     }

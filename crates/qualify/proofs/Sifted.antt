@@ -34,7 +34,7 @@ joinedOf-push G us (u ∷ vs) v = go (joinedAll G u us) (joinedOf-push G us vs v
 abbrev pub sifted : ℕ → List ℕ → List ℕ → ℕ → ℕ → ℕ → List ℕ
 sifted n t w taken left j = joinedOf (graphOf n t) (part w n taken) (take j (map (vertexAt (graphOf n t)) (part w (2 * n) left)))
 
-module _ {n : ℕ} {t ranks w₀ : List ℕ} {taken left : ℕ} (a : Sifts n t ranks w₀ taken left) where
+module _ {n : ℕ} {t order w₀ : List ℕ} {taken left : ℕ} (a : Sifts n t order w₀ taken left) where
   -- the left vertices
   abbrev lefts : List ℕ
   lefts = map (vertexAt (graphOf n t)) (part w₀ (2 * n) left)
@@ -76,9 +76,9 @@ module _ {n : ℕ} {t ranks w₀ : List ℕ} {taken left : ℕ} (a : Sifts n t r
       rank-small = let e = rank-kept in let l = a .left-ranks j h in omega arith
 
       -- and v is its vertex
-      module _ {v : ℕ} (vertex : ReadsVertex n ranks r v) where
+      module _ {v : ℕ} (vertex : ReadsVertex n order r v) where
         pub vertex-is : (v ≡ vertexAt (graphOf n t) r) × (v < n)
-        vertex-is = vertex-read (a .ranked) vertex
+        vertex-is = vertex-read (a .ordered) vertex
 
         vertex-listed : v ≡ getD lefts j 0
         vertex-listed =

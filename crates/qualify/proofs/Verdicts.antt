@@ -18,7 +18,7 @@ use Rattle.theory.specs.Search.{Candidates}
 use Rattle.theory.proofs.basics.Tests.{test-and, test-self, fails}
 use Rattle.theory.proofs.basics.Passing.{passing-listed}
 use Rattle.theory.proofs.basics.PassingParts.{passing-count}
-use Rattle.ranks.proofs.Ranks.{ranks-room}
+use Rattle.ranks.proofs.Ranks.{degrees-room}
 use Rattle.isolation.specs.declared.Settings.{Settings}
 use Rattle.isolation.specs.declared.Tally.{Tally}
 use Rattle.isolation.specs.Numbers.{settingsOf, isolatedOf, beatenOf, TallyOf}
@@ -61,7 +61,7 @@ ranks-fit G p =
     omega arith
 
 -- the first and the last taken vertex are vertices
-module _ {n : ℕ} {ranks w : List ℕ} {s : State} (f : TallyFits n ranks w s) where
+module _ {n : ℕ} {d w : List ℕ} {s : State} (f : TallyFits n d w s) where
   pub first-below : getD w n 0 < n
   first-below = let l = f .vertices 0 (f .some) in let e = ap (λ (k : ℕ). getD w k 0) (add-zero n) in omega arith
 
@@ -72,7 +72,7 @@ module _ {n : ℕ} {ranks w : List ℕ} {s : State} (f : TallyFits n ranks w s) 
 pub same-tally : (x y : Tally) → x .members ≡ y .members → x .sum ≡ y .sum → x .least ≡ y .least → x .largest ≡ y .largest → x ≡ y
 same-tally x y a b c d i = record { members = a i; sum = b i; least = c i; largest = d i }
 
-module _ {n : ℕ} {t ranks w : List ℕ} {q : Settings} {s : State} (a : Asks n t ranks w q s) where
+module _ {n : ℕ} {t degrees order w : List ℕ} {q : Settings} {s : State} (a : Asks n t degrees order w q s) where
   abbrev G : Graph
   G = graphOf n t
 
@@ -113,10 +113,10 @@ module _ {n : ℕ} {t ranks w : List ℕ} {q : Settings} {s : State} (a : Asks n
     some : 0 < s .taken
     some = omega (arith, taken)
 
-    pub tally-fits : TallyFits n ranks w s
+    pub tally-fits : TallyFits n degrees w s
     tally-fits =
         record {
-          ranks-fit = ranks-room (a .ranked);
+          degrees-fit = degrees-room (a .ranked);
           work-fits = let r = h₀ .room in omega arith;
           some = some;
           few = taken-few;
@@ -124,7 +124,7 @@ module _ {n : ℕ} {t ranks w : List ℕ} {q : Settings} {s : State} (a : Asks n
         }
 
     -- what is read is the taken set's numbers
-    tally-is : (p : Position) → Stands G p w s → readTally n ranks w s ≡ tallyOf G p
+    tally-is : (p : Position) → Stands G p w s → readTally n degrees w s ≡ tallyOf G p
     tally-is p h =
         let l = length-taken p h in
         let first = vertex-entry G p w s h 0 some in
@@ -149,7 +149,7 @@ module _ {n : ℕ} {t ranks w : List ℕ} {q : Settings} {s : State} (a : Asks n
     found-is p h =
         found-by G p (h .long) (h .bytes) (all-decided p h) (some-listed p h) loopless symmetric (settingsOf q) (sym (h .apart) ∙ met)
 
-    module _ {y : Tally} (e : y ≡ readTally n ranks w s) where
+    module _ {y : Tally} (e : y ≡ readTally n degrees w s) where
       isolated-is : (p : Position) → Stands G p w s → isolatedOf q (tallyOf G p) ≡ isolatedOf q y
       isolated-is p h = ap (isolatedOf q) (sym (e ∙ tally-is p h))
 
@@ -160,11 +160,11 @@ module _ {n : ℕ} {t ranks w : List ℕ} {q : Settings} {s : State} (a : Asks n
 
       -- ---- the common neighbours
 
-      pub sifts : Sifts n t ranks w (s .taken) (s .left)
+      pub sifts : Sifts n t order w (s .taken) (s .left)
       unfolding leftRanks
       sifts =
           record {
-            ranked = a .ranked;
+            ordered = a .ranked .ordered;
             room = h₀ .room;
             few-taken = taken-few;
             few-left = left-few h₀;
@@ -184,13 +184,13 @@ module _ {n : ℕ} {t ranks w : List ℕ} {q : Settings} {s : State} (a : Asks n
         unfolding candidatesOf
         candidates-are p h = f .found .listed ∙ ap₂ (λ (us vs : List ℕ). joinedOf G us (map (vertexAt G) vs)) (h .vertices) (h .left)
 
-        pub lent : SearchFits n t ranks w₁
+        pub lent : SearchFits n t degrees w₁
         lent =
             let r = h₀ .room in
             let k = f .found .kept .length-kept in
             record {
-              table = a .ranked .fits;
-              ranks-fit = ranks-room (a .ranked);
+              table = a .ranked .ordered .fits;
+              degrees-fit = degrees-room (a .ranked);
               degrees = a .ranked .degrees;
               parts = omega arith;
             }

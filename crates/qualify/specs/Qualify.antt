@@ -10,11 +10,12 @@ use Rattle.model.specs.Meaning.{Simple}
 use Rattle.model.specs.Walk.{Position, found}
 use Rattle.model.specs.Listing.{takenList, rules}
 use Rattle.theory.specs.Search.{joinedAll}
-use Rattle.ranks.specs.Ranks.{RanksFit, HoldsRanks}
+use Rattle.graph.specs.Degrees.{DegreesFit}
+use Rattle.ranks.specs.Ranks.{Ordered, HoldsRanks}
 use Rattle.isolation.specs.declared.Settings.{Settings}
 use Rattle.isolation.specs.declared.Tally.{Tally}
 use Rattle.isolation.specs.Numbers.{settingsOf, FactorFits}
-use Rattle.theory.specs.Parts.{part, membersAt, leftRanksAt, degreesAt, HoldsVertices, CandidatesIn}
+use Rattle.theory.specs.Parts.{part, membersAt, leftRanksAt, HoldsVertices, CandidatesIn}
 use Rattle.graph.specs.Table.{graphOf}
 use Rattle.state.specs.declared.State.{State}
 use Rattle.state.specs.State.{leftRanks, degreesOf, Stands, StandsForOne}
@@ -28,9 +29,9 @@ joinedOf G us (v ∷ vs) = let rest = joinedOf G us vs in cond (joinedAll G v us
 unfoldable pub candidatesOf : Graph → Position → List ℕ
 candidatesOf G p = joinedOf G (takenList G p) (map (vertexAt G) (leftRanks G p))
 
--- what `candidates` asks for: the graph's ranks, taken vertices in part 1 of the work slice and left ranks in part 2
-pub record Sifts (n : ℕ) (t ranks w : List ℕ) (taken left : ℕ) : Type 0 where
-  pub ranked : HoldsRanks n t ranks
+-- what `candidates` asks for: the graph's rank order, taken vertices in part 1 of the work slice and left ranks in part 2
+pub record Sifts (n : ℕ) (t order w : List ℕ) (taken left : ℕ) : Type 0 where
+  pub ordered : Ordered n t order
   pub room : 8 * n ≤ length w
   pub few-taken : taken ≤ n
   pub few-left : left ≤ n
@@ -52,27 +53,27 @@ tallyOf G p =
       largest = degree G (getD (takenList G p) (length (takenList G p) - 1) 0);
     }
 
--- the same as code reads them off the state, the degrees in part 1 of the ranks and the taken vertices in part 1 of the work slice
+-- the same as code reads them off the state, the list of degrees and the taken vertices in part 1 of the work slice
 abbrev pub readTally : ℕ → List ℕ → List ℕ → State → Tally
-readTally n ranks w s =
+readTally n d w s =
     record {
       members = s .taken;
       sum = s .sum;
-      least = getD ranks (degreesAt n + getD w (membersAt n) 0) 0;
-      largest = getD ranks (degreesAt n + getD w (membersAt n + (s .taken - 1)) 0) 0;
+      least = getD d (getD w (membersAt n) 0) 0;
+      largest = getD d (getD w (membersAt n + (s .taken - 1)) 0) 0;
     }
 
 -- what reading them asks for
-pub record TallyFits (n : ℕ) (ranks w : List ℕ) (s : State) : Type 0 where
-  pub ranks-fit : RanksFit n ranks
+pub record TallyFits (n : ℕ) (d w : List ℕ) (s : State) : Type 0 where
+  pub degrees-fit : DegreesFit n d
   pub work-fits : 8 * n ≤ length w
   pub some : 0 < s .taken
   pub few : s .taken ≤ n
   pub vertices : HoldsVertices n w (membersAt n) (s .taken)
 
--- what `qualifies` asks for: the table of a graph of document 01 with its ranks, a factor that is not refused, and a state that stands for a position
-pub record Asks (n : ℕ) (t ranks w : List ℕ) (q : Settings) (s : State) : Type 0 where
-  pub ranked : HoldsRanks n t ranks
+-- what `qualifies` asks for: the table of a graph of document 01 with its degrees and rank order, a factor that is not refused, and a state that stands for a position
+pub record Asks (n : ℕ) (t degrees order w : List ℕ) (q : Settings) (s : State) : Type 0 where
+  pub ranked : HoldsRanks n t degrees order
   pub simple : Simple (graphOf n t)
   pub factor : FactorFits q
   pub stands : StandsForOne (graphOf n t) w s

@@ -2,13 +2,13 @@
 // neighbours of the pivot.
 ghost use mathlib.Core.Path.{_≡_};
 ghost use Rattle.qualify.specs.Qualify.{Sifts, Sifted, readTally, TallyFits, Asks, SaysQualifies};
+use graph::degree_at;
 use graph::entry_at;
 use isolation::Settings;
 use isolation::Tally;
 use isolation::isolated_by;
 use larger::beaten;
 use larger::joined_to_all;
-use ranks::degree_at;
 use ranks::vertex_at;
 use state::State;
 
@@ -18,13 +18,13 @@ use state::State;
 // decided each of these is left.
 fn candidates(
     table: &[u8],
-    ranks: &[u16],
+    order: &[u16],
     work: &mut [u16],
     n: usize,
     taken: usize,
     left: usize,
 ) -> usize
-    requires { ⌜ Sifts n (now table) (now ranks) (now work) taken left ⌝ }
+    requires { ⌜ Sifts n (now table) (now order) (now work) taken left ⌝ }
     ensures { λ r. ⌜ Sifted n (now (table .entry)) (now (work .entry)) (now (work .exit)) taken left r ⌝ }
 {
     let end = n + taken;
@@ -32,7 +32,7 @@ fn candidates(
     let mut j = 0;
     while j < left {
         let r = entry_at(work, 2 * n + j);
-        let v = vertex_at(ranks, n, r);
+        let v = vertex_at(order, n, r);
         if joined_to_all(table, n, work, v, n, end) {
             work[3 * n + m] = v as u16;
             m += 1;
@@ -43,18 +43,18 @@ fn candidates(
 }
 
 // The numbers of the taken set: how many and the sum of their degrees are kept in the state, the first taken vertex has the least degree and the last
-// the largest. Reads two entries of work and two of ranks.
+// the largest. Reads two entries of work and two of degrees.
 // Document 002, section 2.2: vertices are in order of degree, and the pivot of a set is the lowest of it.
-fn numbers(s: State, ranks: &[u16], work: &[u16], n: usize) -> Tally
-    requires { ⌜ TallyFits n (now ranks) (now work) s ⌝ }
-    ensures { λ r. ⌜ r ≡ readTally n (now (ranks .entry)) (now (work .entry)) s ⌝ }
+fn numbers(s: State, degrees: &[u16], work: &[u16], n: usize) -> Tally
+    requires { ⌜ TallyFits n (now degrees) (now work) s ⌝ }
+    ensures { λ r. ⌜ r ≡ readTally n (now (degrees .entry)) (now (work .entry)) s ⌝ }
 {
     let k = s.taken;
     let sum = s.sum;
     let first = entry_at(work, n);
     let last = entry_at(work, n + (k - 1));
-    let least = degree_at(ranks, n, first);
-    let largest = degree_at(ranks, n, last);
+    let least = degree_at(degrees, n, first);
+    let largest = degree_at(degrees, n, last);
     Tally {
         members: k,
         sum,
@@ -72,11 +72,12 @@ pub fn qualifies(
     s: State,
     q: Settings,
     table: &[u8],
-    ranks: &[u16],
+    degrees: &[u16],
+    order: &[u16],
     work: &mut [u16],
     n: usize,
 ) -> bool
-    requires { ⌜ Asks n (now table) (now ranks) (now work) q s ⌝ }
+    requires { ⌜ Asks n (now table) (now degrees) (now order) (now work) q s ⌝ }
     ensures { λ r. ⌜ SaysQualifies n (now (table .entry)) (now (work .entry)) (now (work .exit)) q s r ⌝ }
 {
     let d = s.decided;
@@ -92,10 +93,10 @@ pub fn qualifies(
     if apart {
         return false;
     }
-    let y = numbers(s, ranks, work, n);
+    let y = numbers(s, degrees, work, n);
     if !isolated_by(q, y) {
         return false;
     }
-    let m = candidates(table, ranks, work, n, k, left);
-    !beaten(table, ranks, work, n, q, y, m)
+    let m = candidates(table, order, work, n, k, left);
+    !beaten(table, degrees, work, n, q, y, m)
 }

@@ -1,2 +1,4 @@
--- The slice of degrees and ranks while it is filled, and what it then says.
+-- Counting by degree, the slices while they are filled by it, and what they then say.
+pub mod Counting
+pub mod Placed
 pub mod Ranks

@@ -1,2 +1,2 @@
--- The slice of degrees and ranks, and what fills it.
+-- The slice of the rank order, and what fills it.
 pub mod Ranks

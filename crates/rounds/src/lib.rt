@@ -48,7 +48,8 @@ fn stop_number(s: Stop) -> u32
 // Document 01, "A page", points 1 to 5 in this order: finished, spent, full, the group is put out, one step.
 pub fn run(
     table: &[u8],
-    ranks: &[u16],
+    degrees: &[u16],
+    order: &[u16],
     position: &mut [u8],
     output: &mut [u16],
     work: &mut [u16],
@@ -57,7 +58,7 @@ pub fn run(
     first: State,
     budget: u32,
 ) -> PageAnswer
-    requires { ⌜ Walking n (settingsOf q) (now table) (now ranks) (now position) (now work) first × FactorFits q ⌝ }
+    requires { ⌜ Walking n (settingsOf q) (now table) (now degrees) (now order) (now position) (now work) first × FactorFits q ⌝ }
     ensures { λ r. ⌜
         PageReplies r (now (position .exit)) (now (output .exit))
         (replyOf 0 (page (rules (graphOf n (now (table .entry))) (settingsOf q)) budget (length (now (output .entry))) (now (position .entry)))
@@ -76,14 +77,14 @@ pub fn run(
         if steps == budget {
             break Stop::Spent;
         }
-        let put = emit(s, q, table, ranks, work, n, output, used);
+        let put = emit(s, q, table, degrees, order, work, n, output, used);
         if put.full {
             wanted = put.wanted;
             break Stop::Full;
         }
         used = put.used;
         groups += put.groups;
-        s = step(s, table, ranks, n, q, position, work);
+        s = step(s, table, degrees, order, n, q, position, work);
         steps += 1;
     };
     PageAnswer {

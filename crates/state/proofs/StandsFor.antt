@@ -192,9 +192,9 @@ module _ {G : Graph} {p : Position} {w : List ℕ} {s : State} (St : Stands G p 
 -- ---- for the graph of a table
 
 -- the sum of the degrees of the taken vertices is small
-pub sum-small : {n : ℕ} {t ranks : List ℕ} → HoldsRanks n t ranks → {p : Position} {w : List ℕ} {s : State} → Stands (graphOf n t) p w s → s .sum ≤ 1048576
+pub sum-small : {n : ℕ} {t degrees order : List ℕ} → HoldsRanks n t degrees order → {p : Position} {w : List ℕ} {s : State} → Stands (graphOf n t) p w s → s .sum ≤ 1048576
 sum-small {n} {t} R {p} {w} {s} St =
-    let g = R .fits .small in
+    let g = R .ordered .fits .small in
     let a = degrees-bound (graphOf n t) 1024 (λ v. omega (arith, table-degree n t v)) (takenList (graphOf n t) p) in
     let b = taken-length (graphOf n t) p ∙ taken-count (graphOf n t) p w s St in
     let c = St .sum in

@@ -9,15 +9,15 @@ ghost use Rattle.model.specs.Listing.{is};
 ghost use Rattle.model.specs.Calls.{over, gap, reopened};
 ghost use Rattle.theory.specs.Parts.{membersAt};
 ghost use Rattle.graph.specs.Table.{graphOf};
-ghost use Rattle.ranks.specs.Ranks.{HoldsRanks};
+ghost use Rattle.ranks.specs.Ranks.{Ordered, HoldsRanks};
 ghost use Rattle.isolation.specs.Numbers.{FactorFits};
 ghost use Rattle.state.specs.State.{Stands, StandsForOne, SaysFinished, SaysDead, Copied};
 ghost use Rattle.state.specs.NextRank.{Pushed, Misses, LeftOnceTaken};
+use graph::degree_at;
 use graph::entry_at;
 use graph::joined;
 use isolation::Settings;
 use isolation::within;
-use ranks::degree_at;
 use ranks::vertex_at;
 
 // What a page keeps beside the position and the work slice: how many ranks are decided, how many of them are taken, how many neighbours of the
@@ -91,8 +91,8 @@ fn misses_one(table: &[u8], n: usize, work: &[u16], k: usize, v: usize) -> bool
 // How many neighbours of the pivot are left once the next rank, d, is taken; part 2 of work then holds them, lowest first. Document 01, "Graph and
 // ranks", after documents 000, section 2, and 002, section 2.2: the pivot is the member of lowest rank, one of least degree. So it stays where something is taken. Else it
 // is d, and the ranks below d, which are all left, are looked through once.
-fn left_once_taken(s: State, table: &[u8], ranks: &[u16], n: usize, work: &mut [u16]) -> usize
-    requires { ⌜ HoldsRanks n (now table) (now ranks) × StandsForOne (graphOf n (now table)) (now work) s × (s .decided < n) ⌝ }
+fn left_once_taken(s: State, table: &[u8], order: &[u16], n: usize, work: &mut [u16]) -> usize
+    requires { ⌜ Ordered n (now table) (now order) × StandsForOne (graphOf n (now table)) (now work) s × (s .decided < n) ⌝ }
     ensures { λ m. ⌜ LeftOnceTaken (graphOf n (now (table .entry))) (now (work .entry)) s (now (work .exit)) m ⌝ }
 {
     let d = s.decided;
@@ -100,11 +100,11 @@ fn left_once_taken(s: State, table: &[u8], ranks: &[u16], n: usize, work: &mut [
     if 0 < k {
         return s.left;
     }
-    let v = vertex_at(ranks, n, d);
+    let v = vertex_at(order, n, d);
     let mut m: usize = 0;
     let mut i = 0;
     while i < d {
-        let u = vertex_at(ranks, n, i);
+        let u = vertex_at(order, n, i);
         if joined(table, n, v, u) {
             work[2 * n + m] = i as u16;
             m += 1;
@@ -115,30 +115,38 @@ fn left_once_taken(s: State, table: &[u8], ranks: &[u16], n: usize, work: &mut [
 }
 
 // The state with the next rank taken: its vertex is tested against the taken ones. Does not touch the position.
-pub fn push_taken(s: State, table: &[u8], ranks: &[u16], n: usize, work: &mut [u16]) -> State
-    requires { ⌜ HoldsRanks n (now table) (now ranks) × StandsForOne (graphOf n (now table)) (now work) s × (s .decided < n) ⌝ }
+pub fn push_taken(
+    s: State,
+    table: &[u8],
+    degrees: &[u16],
+    order: &[u16],
+    n: usize,
+    work: &mut [u16],
+) -> State
+    requires { ⌜ HoldsRanks n (now table) (now degrees) (now order) × StandsForOne (graphOf n (now table)) (now work) s × (s .decided < n) ⌝ }
     ensures { λ r. ⌜ Pushed (graphOf n (now (table .entry))) 1 (now (work .entry)) s (now (work .exit)) r ⌝ }
 {
     let d = s.decided;
     let k = s.taken;
-    let v = vertex_at(ranks, n, d);
-    let degree = degree_at(ranks, n, v);
+    let v = vertex_at(order, n, d);
+    let degree = degree_at(degrees, n, v);
     let apart = either(s.apart, misses_one(table, n, work, k, v));
-    let left = left_once_taken(s, table, ranks, n, work);
+    let left = left_once_taken(s, table, order, n, work);
+    let sum = s.sum + degree;
     work[k] = d as u16;
     work[n + k] = v as u16;
     State {
         decided: d + 1,
         taken: k + 1,
         left,
-        sum: s.sum + degree,
+        sum,
         apart,
     }
 }
 
 // The state with the next rank left: a neighbour of the pivot goes onto part 2. Does not touch the position.
-pub fn push_left(s: State, table: &[u8], ranks: &[u16], n: usize, work: &mut [u16]) -> State
-    requires { ⌜ HoldsRanks n (now table) (now ranks) × StandsForOne (graphOf n (now table)) (now work) s × (s .decided < n) ⌝ }
+pub fn push_left(s: State, table: &[u8], order: &[u16], n: usize, work: &mut [u16]) -> State
+    requires { ⌜ Ordered n (now table) (now order) × StandsForOne (graphOf n (now table)) (now work) s × (s .decided < n) ⌝ }
     ensures { λ r. ⌜ Pushed (graphOf n (now (table .entry))) 2 (now (work .entry)) s (now (work .exit)) r ⌝ }
 {
     let d = s.decided;
@@ -154,7 +162,7 @@ pub fn push_left(s: State, table: &[u8], ranks: &[u16], n: usize, work: &mut [u1
         };
     }
     let p = entry_at(work, n);
-    let v = vertex_at(ranks, n, d);
+    let v = vertex_at(order, n, d);
     if joined(table, n, p, v) {
         work[2 * n + m] = d as u16;
         return State {
@@ -175,27 +183,36 @@ pub fn push_left(s: State, table: &[u8], ranks: &[u16], n: usize, work: &mut [u1
 }
 
 // The state with the next rank decided as the mark says. Document 01, "The walk": 1 is taken and 2 is left.
-fn push(s: State, mark: u8, table: &[u8], ranks: &[u16], n: usize, work: &mut [u16]) -> State
-    requires { ⌜ HoldsRanks n (now table) (now ranks) × StandsForOne (graphOf n (now table)) (now work) s × (s .decided < n) × (0 < mark) × (mark ≤ 2) ⌝ }
+fn push(
+    s: State,
+    mark: u8,
+    table: &[u8],
+    degrees: &[u16],
+    order: &[u16],
+    n: usize,
+    work: &mut [u16],
+) -> State
+    requires { ⌜ HoldsRanks n (now table) (now degrees) (now order) × StandsForOne (graphOf n (now table)) (now work) s × (s .decided < n) × (0 < mark) × (mark ≤ 2) ⌝ }
     ensures { λ r. ⌜ Pushed (graphOf n (now (table .entry))) mark (now (work .entry)) s (now (work .exit)) r ⌝ }
 {
     if mark == 1 {
-        return push_taken(s, table, ranks, n, work);
+        return push_taken(s, table, degrees, order, n, work);
     }
-    push_left(s, table, ranks, n, work)
+    push_left(s, table, order, n, work)
 }
 
 // The state of a position that passes refusals 21 and 22, with its last decided rank opened; `upto` is that rank, and 0 where all are open. Goes once
 // through the ranks below it, and writes the work slice alone.
 pub fn rebuild(
     table: &[u8],
-    ranks: &[u16],
+    degrees: &[u16],
+    order: &[u16],
     n: usize,
     position: &[u8],
     upto: usize,
     work: &mut [u16],
 ) -> State
-    requires { ⌜ HoldsRanks n (now table) (now ranks) × (length (now position) ≡ n) × (8 * n ≤ length (now work)) × (over 2 (now position) ≡ false) × (gap (now position) ≡ false) × (upto ≡ least (length (now position)) (is 0 (now position)) - 1) ⌝ }
+    requires { ⌜ HoldsRanks n (now table) (now degrees) (now order) × (length (now position) ≡ n) × (8 * n ≤ length (now work)) × (over 2 (now position) ≡ false) × (gap (now position) ≡ false) × (upto ≡ least (length (now position)) (is 0 (now position)) - 1) ⌝ }
     ensures { λ r. ⌜ Stands (graphOf n (now (table .entry))) (reopened (now (position .entry))) (now (work .exit)) r ⌝ }
 {
     let mut s = State {
@@ -208,7 +225,7 @@ pub fn rebuild(
     while s.decided < upto {
         let d = s.decided;
         let mark = position[d];
-        s = push(s, mark, table, ranks, n, work);
+        s = push(s, mark, table, degrees, order, n, work);
     }
     s
 }
@@ -230,13 +247,14 @@ fn copy(from: &[u16], to: &mut [u16], k: usize)
 pub fn go_on(
     s: State,
     table: &[u8],
-    ranks: &[u16],
+    degrees: &[u16],
+    order: &[u16],
     n: usize,
     position: &[u8],
     memory: &[u16],
     work: &mut [u16],
 ) -> State
-    requires { ⌜ HoldsRanks n (now table) (now ranks) × Stands (graphOf n (now table)) (reopened (now position)) (now memory) s × (8 * n ≤ length (now work)) × (over 2 (now position) ≡ false) ⌝ }
+    requires { ⌜ HoldsRanks n (now table) (now degrees) (now order) × Stands (graphOf n (now table)) (reopened (now position)) (now memory) s × (8 * n ≤ length (now work)) × (over 2 (now position) ≡ false) ⌝ }
     ensures { λ r. ⌜ Stands (graphOf n (now (table .entry))) (now (position .entry)) (now (work .exit)) r ⌝ }
 {
     let d = s.decided;
@@ -248,5 +266,5 @@ pub fn go_on(
     if mark == 0 {
         return s;
     }
-    push(s, mark, table, ranks, n, work)
+    push(s, mark, table, degrees, order, n, work)
 }

@@ -22,7 +22,7 @@ use Rattle.walk.specs.Walk.{Walking, Moved, Stepped}
 use Rattle.state.specs.declared.State.{State}
 use Rattle.state.proofs.StandsFor.{some-open, no-open, finished-decided, untaken-live}
 
-module _ {n : ℕ} {q : Settings} {t ranks : List ℕ} {p : Position} {w : List ℕ} {s : State} (W : Walking n q t ranks p w s) where
+module _ {n : ℕ} {q : Settings} {t degrees order : List ℕ} {p : Position} {w : List ℕ} {s : State} (W : Walking n q t degrees order p w s) where
   abbrev G : Graph
   G = graphOf n t
 

@@ -33,11 +33,11 @@ pub record Moved (G : Graph) (q p₂ : Position) (w₂ : List ℕ) (s₂ : State
   pub position : p₂ ≡ q
   pub stands : Stands G q w₂ s₂
 
--- What a step goes by: the table of a graph of document 01, its rank order and degrees, and the state and the work slice for a position that passes
+-- What a step goes by: the table of a graph of document 01, its degrees and rank order, and the state and the work slice for a position that passes
 -- refusals 21 to 23.
-pub record Walking (n : ℕ) (q : Settings) (t ranks : List ℕ) (p : Position) (w : List ℕ) (s : State) : Type 0 where
+pub record Walking (n : ℕ) (q : Settings) (t degrees order : List ℕ) (p : Position) (w : List ℕ) (s : State) : Type 0 where
   pub simple : Simple (graphOf n t)
-  pub ranked : HoldsRanks n t ranks
+  pub ranked : HoldsRanks n t degrees order
   pub stands : Stands (graphOf n t) p w s
   pub passes : Passes (graphOf n t) q p
 

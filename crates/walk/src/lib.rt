@@ -14,9 +14,9 @@ ghost use Rattle.isolation.specs.Numbers.{settingsOf, FactorFits};
 ghost use Rattle.state.specs.State.{Stands};
 ghost use Rattle.state.specs.NextRank.{RanksOpened};
 ghost use Rattle.walk.specs.Walk.{Trimmed, Moved, Walking, Stepped};
+use graph::degree_at;
 use graph::entry_at;
 use isolation::Settings;
-use ranks::degree_at;
 use state::State;
 use state::is_dead;
 use state::push_left;
@@ -26,17 +26,18 @@ use state::push_taken;
 pub fn take(
     s: State,
     table: &[u8],
-    ranks: &[u16],
+    degrees: &[u16],
+    order: &[u16],
     n: usize,
     position: &mut [u8],
     work: &mut [u16],
 ) -> State
-    requires { ⌜ HoldsRanks n (now table) (now ranks) × Stands (graphOf n (now table)) (now position) (now work) s × (s .decided < n) ⌝ }
+    requires { ⌜ HoldsRanks n (now table) (now degrees) (now order) × Stands (graphOf n (now table)) (now position) (now work) s × (s .decided < n) ⌝ }
     ensures { λ r. ⌜ Moved (graphOf n (now (table .entry))) (advance (now (position .entry))) (now (position .exit)) (now (work .exit)) r ⌝ }
 {
     let d = s.decided;
     position[d] = 1;
-    push_taken(s, table, ranks, n, work)
+    push_taken(s, table, degrees, order, n, work)
 }
 
 // Opens the ranks from a to below e.
@@ -76,19 +77,20 @@ fn trim(work: &[u16], n: usize, k: usize, m: usize, r: usize) -> usize
 pub fn back(
     s: State,
     table: &[u8],
-    ranks: &[u16],
+    degrees: &[u16],
+    order: &[u16],
     n: usize,
     position: &mut [u8],
     work: &mut [u16],
 ) -> State
-    requires { ⌜ HoldsRanks n (now table) (now ranks) × Stands (graphOf n (now table)) (now position) (now work) s × (0 < s .taken) × (apart (graphOf n (now table)) (reopened (now position)) ≡ false) ⌝ }
+    requires { ⌜ HoldsRanks n (now table) (now degrees) (now order) × Stands (graphOf n (now table)) (now position) (now work) s × (0 < s .taken) × (apart (graphOf n (now table)) (reopened (now position)) ≡ false) ⌝ }
     ensures { λ r. ⌜ Moved (graphOf n (now (table .entry))) (retreat (now (position .entry))) (now (position .exit)) (now (work .exit)) r ⌝ }
 {
     let d = s.decided;
     let k = s.taken - 1;
     let r = entry_at(work, k);
     let last = entry_at(work, n + k);
-    let last_degree = degree_at(ranks, n, last);
+    let last_degree = degree_at(degrees, n, last);
     let left = trim(work, n, k, s.left, r);
     let sum = s.sum - last_degree;
     let rest = State {
@@ -101,7 +103,7 @@ pub fn back(
     let next = r + 1;
     position[r] = 2;
     open_ranks(position, next, d);
-    push_left(rest, table, ranks, n, work)
+    push_left(rest, table, order, n, work)
 }
 
 // One step from a position that is not finished. Document 01, "The walk": live with an open rank, the lowest open rank is taken; otherwise the
@@ -109,22 +111,23 @@ pub fn back(
 pub fn step(
     s: State,
     table: &[u8],
-    ranks: &[u16],
+    degrees: &[u16],
+    order: &[u16],
     n: usize,
     q: Settings,
     position: &mut [u8],
     work: &mut [u16],
 ) -> State
-    requires { ⌜ Walking n (settingsOf q) (now table) (now ranks) (now position) (now work) s ⌝ }
+    requires { ⌜ Walking n (settingsOf q) (now table) (now degrees) (now order) (now position) (now work) s ⌝ }
     requires { ⌜ FactorFits q × (finished (now position) ≡ false) ⌝ }
     ensures { λ r. ⌜ Stepped (graphOf n (now (table .entry))) (settingsOf q) (now (position .entry)) (now (position .exit)) (now (work .exit)) r ⌝ }
 {
     let d = s.decided;
     if is_dead(s, q, work) {
-        return back(s, table, ranks, n, position, work);
+        return back(s, table, degrees, order, n, position, work);
     }
     if d < n {
-        return take(s, table, ranks, n, position, work);
+        return take(s, table, degrees, order, n, position, work);
     }
-    back(s, table, ranks, n, position, work)
+    back(s, table, degrees, order, n, position, work)
 }

@@ -14,29 +14,29 @@ use Rattle.position.proofs.position_refusal.Tie as tie
 returns : tie.Need-returns
 unfolding refuse
 returns c =
-    let q = c .before .before .before .before .before .before .before .args .q in
+    let q = c .before .before .before .before .before .before .before .before .args .q in
     judged-refused _ q _ _ (c .no-opening .ensures) (omega arith)
     (position-by (rules _ (settingsOf q)) _ (sym (c .before .before .any-over .ensures) ∙ c .before .if1 .taken) refl refl)
 
 -- no byte is over 2
-bytes : (c : tie.Else1) → over 2 (c .before .before .before .before .before .before .args .position .now) ≡ false
+bytes : (c : tie.Else1) → over 2 (c .before .before .before .before .before .before .before .args .position .now) ≡ false
 bytes c = sym (c .before .any-over .ensures) ∙ c .if1 .left
 
 returns-2 : tie.Need-returns-2
 unfolding refuse
 returns-2 c =
-    let q = c .before .before .before .before .before .before .before .before .before .args .q in
+    let q = c .before .before .before .before .before .before .before .before .before .before .args .q in
     judged-refused _ q _ _ (c .no-opening2 .ensures) (omega arith)
     (position-by (rules _ (settingsOf q)) _ (bytes (c .before .before .before)) (sym (c .before .before .has-gap .ensures) ∙ c .before .if2 .taken) refl)
 
 -- nor is a decided rank after an open one
-gapless : (c : tie.Else2) → gap (c .before .before .before .before .before .before .before .before .args .position .now) ≡ false
+gapless : (c : tie.Else2) → gap (c .before .before .before .before .before .before .before .before .before .args .position .now) ≡ false
 gapless c = sym (c .before .has-gap .ensures) ∙ c .if2 .left
 
 rebuild-requires : tie.Need-rebuild-requires
 rebuild-requires c κs =
     let e = c .before .before .before in
-    let q = e .before .before .before .before .before .before .before .before .pre in
+    let q = e .before .before .before .before .before .before .before .before .before .pre in
     (q .0, q .2, q .3, bytes (e .before .before), gapless e, omega (arith, c .before .less .ensures, c .before .before .decided-count .ensures))
 
 returns-3 : tie.Need-returns-3
@@ -45,7 +45,7 @@ returns-3 c =
     let d = c .before .before in
     let u = d .before .before .before .before in
     let e = u .before .before .before .before in
-    let q = e .before .before .before .before .before .before .before .before .args .q in
+    let q = e .before .before .before .before .before .before .before .before .before .args .q in
     judged-refused _ q _ _ (c .no-opening3 .ensures) (omega arith)
     (position-by (rules _ (settingsOf q)) _ (bytes (e .before .before)) (gapless e) (sym (d .is-dead .ensures _ _ (u .rebuild .ensures)) ∙ c .before .if3 .taken))
 
@@ -55,7 +55,7 @@ returns-4 c =
     let d = c .before in
     let u = d .before .before .before .before in
     let e = u .before .before .before .before in
-    let q = e .before .before .before .before .before .before .before .before .args .q in
+    let q = e .before .before .before .before .before .before .before .before .before .args .q in
     record {
       refusal = position-by (rules _ (settingsOf q)) _ (bytes (e .before .before)) (gapless e) (sym (d .is-dead .ensures _ _ (u .rebuild .ensures)) ∙ c .if3 .left);
       stands = λ z. u .rebuild .ensures;

@@ -7,17 +7,17 @@ use Prim.Native.Nat.{_+_, _-_, _*_, _≤_}
 use borrow.Author.Needs.{needs}
 use Rattle.theory.specs.Parts.{Filled}
 use Rattle.theory.proofs.basics.Parts.{filled-same}
-use Rattle.ranks.proofs.Ranks.{ranks-room}
+use Rattle.ranks.proofs.Ranks.{order-room}
 use Rattle.qualify.proofs.Sifted.{sifted, sifted-none, sifted-hit, sifted-miss, sifted-all, rank-small, vertex-is, members-vertices}
 use Rattle.qualify.proofs.candidates.Statement.{statement}
 use Rattle.qualify.proofs.candidates.Tie as tie
 
 abbrev Inv-loop : tie.InvT-loop
-Inv-loop table ranks work₀ n taken left end m₀ j₀ work m j =
+Inv-loop table order work₀ n taken left end m₀ j₀ work m j =
     (m ≤ j) × (j ≤ left) × Filled (3 * n) (3 * n + n) (sifted n table work₀ taken left j) work₀ work m
 
 abbrev μ-loop : tie.MeasureT-loop
-μ-loop table ranks work₀ n taken left end m₀ j₀ work m j = left - j
+μ-loop table order work₀ n taken left end m₀ j₀ work m j = left - j
 
 loop-holds : tie.Need-loop-holds Inv-loop μ-loop
 loop-holds c = (omega arith, omega arith, sifted-none (c .before .before .before .pre))
@@ -26,7 +26,7 @@ vertex-at-requires : tie.Need-vertex-at-requires Inv-loop μ-loop
 vertex-at-requires c κs =
     let l = c .before .before .before in
     let p = l .before .before .before .before .pre in
-    (ranks-room (p .ranked), rank-small p (l .loop .inv .2) (c .before .before .loop-test .taken) (c .entry-at .ensures))
+    (order-room (p .ordered), rank-small p (l .loop .inv .2) (c .before .before .loop-test .taken) (c .entry-at .ensures))
 
 joined-to-all-requires : tie.Need-joined-to-all-requires Inv-loop μ-loop
 joined-to-all-requires c κs =
@@ -38,13 +38,13 @@ joined-to-all-requires c κs =
     let e = v .kept .length-kept in
     let read = c .before .before .entry-at .ensures in
     let low = vertex-is p v (c .before .before .before .before .loop-test .taken) read (c .before .vertex-at .ensures) .1 in
-    (p .ranked .fits, low, omega arith, omega arith, λ i h. members-vertices p (v .kept) i (omega arith))
+    (p .ordered .fits, low, omega arith, omega arith, λ i h. members-vertices p (v .kept) i (omega arith))
 
 cast-work : tie.Need-cast-work Inv-loop μ-loop
 cast-work c =
     let l = c .before .before .before .before .before .before .before in
     let p = l .before .before .before .before .pre in
-    omega (arith, p .ranked .fits .small, vertex-is p (l .loop .inv .2) (c .before .before .before .before .before .before .loop-test .taken) (c .before .before .before .before .entry-at .ensures) (c .before .before .before .vertex-at .ensures) .1)
+    omega (arith, p .ordered .fits .small, vertex-is p (l .loop .inv .2) (c .before .before .before .before .before .before .loop-test .taken) (c .before .before .before .before .entry-at .ensures) (c .before .before .before .vertex-at .ensures) .1)
 
 loop-again : tie.Need-loop-again Inv-loop μ-loop
 loop-again c =

@@ -12,15 +12,15 @@ use Rattle.rounds.proofs.run.Statement.{statement}
 use Rattle.rounds.proofs.run.Tie as tie
 
 abbrev Inv-loop : tie.InvT-loop
-Inv-loop table ranks position₀ output₀ work₀ n q budget s₀ steps₀ groups₀ used₀ wanted₀ position output work s steps groups used wanted =
-    Running (callRules n table ranks q) (Going n table ranks q) budget position₀ output₀ work₀ position output work s steps groups used wanted
+Inv-loop table degrees order position₀ output₀ work₀ n q budget s₀ steps₀ groups₀ used₀ wanted₀ position output work s steps groups used wanted =
+    Running (callRules n table degrees order q) (Going n table degrees order q) budget position₀ output₀ work₀ position output work s steps groups used wanted
 
 abbrev μ-loop : tie.MeasureT-loop
-μ-loop table ranks position₀ output₀ work₀ n q budget s₀ steps₀ groups₀ used₀ wanted₀ position output work s steps groups used wanted =
+μ-loop table degrees order position₀ output₀ work₀ n q budget s₀ steps₀ groups₀ used₀ wanted₀ position output work s steps groups used wanted =
     budget - steps
 
 loop-holds : tie.Need-loop-holds Inv-loop μ-loop
-loop-holds c = let p = c .before .before .before .before .before .pre in running-start _ _ p
+loop-holds c = let p = c .before .before .before .before .before .before .pre in running-start _ _ p
 
 emit-requires : tie.Need-emit-requires Inv-loop μ-loop
 emit-requires c κs = let r = c .before .before .before .before .before .loop .inv in (asks (r .holds), used-within r)
@@ -31,7 +31,7 @@ add-groups c =
     let b = e .before .before .before in
     let r = b .before .before .before in
     let g = groups-within (r .loop .inv) (put-at (r .loop .inv .holds) (e .emit .ensures)) (λ z. omega (arith, b .if2 .left)) (c .before .if3 .left) in
-    omega (arith, r .before .before .before .before .before .before .fits .budget)
+    omega (arith, r .before .before .before .before .before .before .before .fits .budget)
 
 step-requires : tie.Need-step-requires Inv-loop μ-loop
 step-requires c κs =
@@ -45,7 +45,7 @@ add-steps : tie.Need-add-steps Inv-loop μ-loop
 add-steps c =
     let b = c .before .before .before .before .before .before .before .before .before .before .before .before .before .before .before .before in
     let m = more (b .before .before .before .loop .inv) (λ z. omega (arith, b .if2 .left)) in
-    omega (arith, b .before .before .before .before .before .before .before .before .before .fits .budget)
+    omega (arith, b .before .before .before .before .before .before .before .before .before .before .fits .budget)
 
 loop-less : tie.Need-loop-less Inv-loop μ-loop
 loop-less c =
@@ -62,7 +62,7 @@ loop-again c =
     let r = b .before .before .before .loop .inv in
     running-on r (put-at (r .holds) (e .emit .ensures)) (λ z. omega (arith, b .if2 .left)) (f .if3 .left)
     (says (r .holds) (b .before .before .finished .ensures) ∙ b .before .if1 .left) (s .ensures .position) (goes-on (r .holds) (s .ensures))
-    (s .kept .1 .1 .1 .1 .1 .1 .0 ∙ e .emit .kept .1 .1 .1 .1 .0 ∙ r .work-long) (s .kept .1 .1 .1 .1 .1 .0)
+    (s .kept .1 .1 .1 .1 .1 .1 .1 .0 ∙ e .emit .kept .1 .1 .1 .1 .1 .0 ∙ r .work-long) (s .kept .1 .1 .1 .1 .1 .1 .0)
 
 same-length : tie.Need-same-length Inv-loop μ-loop
 same-length c = c .before .before .before .loop .inv .position-long
@@ -70,12 +70,12 @@ same-length c = c .before .before .before .loop .inv .position-long
 same-length-2 : tie.Need-same-length-2 Inv-loop μ-loop
 same-length-2 c =
     let l = output-long (c .before .before .before .loop .inv) in
-    ⊎-elim (λ w. ap length (w .1) ∙ l) (⊎-elim (λ w. ap length (w .2) ∙ l) (λ w. ap length (w .10) ∙ w .4 .kept .1 .1 .1 .1 .1 .1 .0 ∙ l)) (c .before .if1 .came)
+    ⊎-elim (λ w. ap length (w .1) ∙ l) (⊎-elim (λ w. ap length (w .2) ∙ l) (λ w. ap length (w .10) ∙ w .4 .kept .1 .1 .1 .1 .1 .1 .1 .0 ∙ l)) (c .before .if1 .came)
 
 same-length-3 : tie.Need-same-length-3 Inv-loop μ-loop
 same-length-3 c =
     let l = c .before .before .before .loop .inv .work-long in
-    ⊎-elim (λ w. ap length (w .2) ∙ l) (⊎-elim (λ w. ap length (w .3) ∙ l) (λ w. ap length (w .11) ∙ w .4 .kept .1 .1 .1 .1 .0 ∙ l)) (c .before .if1 .came)
+    ⊎-elim (λ w. ap length (w .2) ∙ l) (⊎-elim (λ w. ap length (w .3) ∙ l) (λ w. ap length (w .11) ∙ w .4 .kept .1 .1 .1 .1 .1 .0 ∙ l)) (c .before .if1 .came)
 
 returns : tie.Need-returns Inv-loop μ-loop
 returns c =

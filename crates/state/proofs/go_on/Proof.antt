@@ -12,7 +12,7 @@ use Rattle.state.proofs.go_on.Tie as tie
 
 returns : tie.Need-returns
 returns c =
-    let b = c .before .before .before .before .before .before .before .before .before .before in
+    let b = c .before .before .before .before .before .before .before .before .before .before .before in
     let q = b .pre in
     let p = b .args .position .now in
     open-stands p (stands-copied (q .1) (c .before .before .before .copy .ensures) (q .2))
@@ -20,17 +20,17 @@ returns c =
 
 shared-slice-read-mark : tie.Need-shared-slice-read-mark
 shared-slice-read-mark c =
-    let b = c .before .before .before .before .before .before .before .before .before .before .before in
+    let b = c .before .before .before .before .before .before .before .before .before .before .before .before in
     omega (arith, last-decides (b .args .position .now) (b .pre .1) .same-length, b .pre .1 .long, b .pre .1 .bound)
 
 returns-2 : tie.Need-returns-2
 returns-2 c =
-    let b = c .before .before .before .before .before .before .before .before .before .before .before .before in
+    let b = c .before .before .before .before .before .before .before .before .before .before .before .before .before in
     open-stands (b .args .position .now) (stands-copied (b .pre .1) (c .before .before .before .before .before .copy .ensures) (b .pre .2)) (omega (arith, c .if2 .taken))
 
 push-requires : tie.Need-push-requires
 push-requires c κs =
-    let b = c .before .before .before .before .before .before .before .before .before .before .before .before .before in
+    let b = c .before .before .before .before .before .before .before .before .before .before .before .before .before .before in
     let q = b .pre in
     let p = b .args .position .now in
     let d = b .args .s .decided in
@@ -44,7 +44,7 @@ push-requires c κs =
 
 returns-3 : tie.Need-returns-3
 returns-3 c =
-    let b = c .before .before .before .before .before .before .before .before .before .before .before .before .before .before .before .before in
+    let b = c .before .before .before .before .before .before .before .before .before .before .before .before .before .before .before .before .before in
     let p = b .args .position .now in
     c .before .before .push .ensures .stands (reopened p) p
     (stands-copied (b .pre .1) (c .before .before .before .before .before .before .before .before .before .copy .ensures) (b .pre .2)) (last-decides p (b .pre .1))

@@ -10,18 +10,18 @@ use Rattle.theory.specs.Parts.{Filled}
 use Rattle.theory.proofs.basics.Parts.{filled-none, filled-push, filled-pass, filled-same}
 use Rattle.theory.proofs.basics.Passing.{passing-none, passing-hit, passing-miss}
 use Rattle.graph.specs.Table.{graphOf}
-use Rattle.ranks.proofs.Ranks.{ranks-room, vertex-read}
+use Rattle.ranks.proofs.Ranks.{order-room, vertex-read}
 use Rattle.state.proofs.RankPushed.{adjacent-by, left-stays, left-found}
 use borrow.Author.Needs.{needs}
 use Rattle.state.proofs.left_once_taken.Statement.{statement}
 use Rattle.state.proofs.left_once_taken.Tie as tie
 
 abbrev Inv-loop : tie.InvT-loop
-Inv-loop table ranks n work₀ d k v m₀ i₀ work m i =
+Inv-loop table order n work₀ d k v m₀ i₀ work m i =
     (i ≤ d) × (m ≤ i) × Filled (2 * n) (3 * n) (passing i (adjacent (graphOf n table) d)) work₀ work m
 
 abbrev μ-loop : tie.MeasureT-loop
-μ-loop table ranks n work₀ d k v m₀ i₀ work m i = d - i
+μ-loop table order n work₀ d k v m₀ i₀ work m i = d - i
 
 returns : tie.Need-returns Inv-loop μ-loop
 returns c =
@@ -32,10 +32,10 @@ loop-holds : tie.Need-loop-holds Inv-loop μ-loop
 loop-holds c = (omega arith, omega arith, filled-none _ _ _ _ (passing-none _))
 
 vertex-at-requires : tie.Need-vertex-at-requires Inv-loop μ-loop
-vertex-at-requires c κs = let q = c .before .before .before .before .pre in (ranks-room (q .0), q .2)
+vertex-at-requires c κs = let q = c .before .before .before .before .pre in (order-room (q .0), q .2)
 
 vertex-at-requires-2 : tie.Need-vertex-at-requires-2 Inv-loop μ-loop
-vertex-at-requires-2 c κs = let q = c .before .before .before .before .before .before .before .pre in (ranks-room (q .0), omega (arith, q .2))
+vertex-at-requires-2 c κs = let q = c .before .before .before .before .before .before .before .pre in (order-room (q .0), omega (arith, q .2))
 
 joined-requires : tie.Need-joined-requires Inv-loop μ-loop
 joined-requires c κs =

@@ -17,9 +17,9 @@ same-length c = search needs
 
 returns : tie.Need-returns
 returns c =
-    let b = c .before .before .before .before .before .before .before .before in
+    let b = c .before .before .before .before .before .before .before .before .before in
     let e : b .args .mark ≡ 1 = omega arith in
-    subst⁻¹ (λ (x : ℕ). Pushed (graphOf (b .args .n) (b .args .table .now)) x (b .args .work .now) (b .args .s) (c .before .before .push-taken .last .1 .1 .1 .1 .0) (c .before .before .push-taken .result))
+    subst⁻¹ (λ (x : ℕ). Pushed (graphOf (b .args .n) (b .args .table .now)) x (b .args .work .now) (b .args .s) (c .before .before .push-taken .last .1 .1 .1 .1 .1 .0) (c .before .before .push-taken .result))
     e (c .before .before .push-taken .ensures)
 
 push-left-requires : tie.Need-push-left-requires
@@ -30,7 +30,7 @@ same-length-2 c = search needs
 
 returns-2 : tie.Need-returns-2
 returns-2 c =
-    let b = c .before .before .before .before .before .before .before .before in
+    let b = c .before .before .before .before .before .before .before .before .before in
     let e : b .args .mark ≡ 2 = omega arith in
     subst⁻¹ (λ (x : ℕ). Pushed (graphOf (b .args .n) (b .args .table .now)) x (b .args .work .now) (b .args .s) (c .before .before .push-left .last .1 .1 .1 .1 .0) (c .before .before .push-left .result))
     e (c .before .before .push-left .ensures)

@@ -2,7 +2,7 @@
 -- Assumes nothing.
 use mathlib.Core.Path.{sym, _∙_}
 use native.Mathlib.Omega.{arith}
-use Rattle.ranks.proofs.Ranks.{ranks-room, vertex-read}
+use Rattle.ranks.proofs.Ranks.{order-room, vertex-read}
 use Rattle.state.proofs.StandsFor.{first-low}
 use Rattle.state.proofs.RankPushed.{neighbour-pushed, other-pushed}
 use borrow.Author.Needs.{needs}
@@ -20,7 +20,7 @@ entry-at-requires c κs =
     omega (arith, q .2, q .1 .1 .room)
 
 vertex-at-requires : tie.Need-vertex-at-requires
-vertex-at-requires c κs = let q = c .before .before .before .before .before .before .pre in (ranks-room (q .0), q .2)
+vertex-at-requires c κs = let q = c .before .before .before .before .before .before .pre in (order-room (q .0), q .2)
 
 joined-requires : tie.Need-joined-requires
 joined-requires c κs =

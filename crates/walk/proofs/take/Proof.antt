@@ -14,7 +14,7 @@ use Rattle.walk.proofs.take.Tie as tie
 
 slice-write-position : tie.Need-slice-write-position
 slice-write-position c =
-    let b = c .before .before .before .before in
+    let b = c .before .before .before .before .before in
     omega (arith, b .pre .2, b .pre .1 .long)
 
 push-taken-requires : tie.Need-push-taken-requires
@@ -28,7 +28,7 @@ same-length-2 c = search needs
 
 returns : tie.Need-returns
 returns c =
-    let b = c .before .before .before .before .before .before .before .before in
+    let b = c .before .before .before .before .before .before .before .before .before in
     let p = b .args .position .now in
     let s = b .args .s in
     let St = b .pre .1 in
