@@ -13,8 +13,10 @@ use Rattle.model.specs.Walk.{Position, page}
 use Rattle.model.specs.Listing.{rules}
 use Rattle.model.specs.Calls.{over, reopened, refuseInput, refusePosition, refusePage, replyOf, replyTo}
 use Rattle.theory.proofs.basics.Refusals.{refuse-pass, else-none, else-found, else-passed}
-use Rattle.graph.specs.Table.{TableFits, lent, graphOf}
-use Rattle.ranks.specs.Ranks.{RanksFit, Prepared, HoldsRanks}
+use Rattle.graph.specs.Table.{lent, graphOf}
+use Rattle.graph.specs.Degrees.{DegreesFit}
+use Rattle.graph.proofs.Table.{table-degree}
+use Rattle.ranks.specs.Ranks.{OrderFits, DegreesUpTo, OrderIn, HoldsRanks}
 use Rattle.isolation.specs.declared.Settings as isolation
 use Rattle.isolation.specs.Numbers.{settingsOf, FactorFits}
 use Rattle.input.proofs.Refusals.{InputPassed, input-passed}
@@ -28,52 +30,59 @@ use Rattle.rounds.specs.Answer.{PageReplies, refused}
 use Rattle.page.specs.Call.{PageCalled}
 use Rattle.page.specs.Halves.{Accepted, PageJudged}
 
--- ---- the ranks
+-- ---- the rank order of a call that passes 1 to 5, 42 and 6 to 10
 
-module _ {n : ℕ} {t : List ℕ} (f : TableFits n t) {before : List ℕ} (long : length before ≡ 2048) where
-  pub ranks-fit : RanksFit n before
-  ranks-fit = record { small = f .small; parts = let s = f .small in omega arith }
+module _ {n : ℕ} {t d : List ℕ} {q : isolation.Settings} {bytes work : ℕ} (h : InputPassed n t d q bytes work) {before : List ℕ} (long : length before ≡ 1024) where
+  -- what filling it asks for
+  pub order-asks : DegreesFit n d × DegreesUpTo n d × OrderFits n before
+  order-asks =
+      let s = h .fits .small in
+      (h .degrees-fit, λ v l. omega (arith, h .degrees v l, table-degree n t v), record { small = s; room = omega arith })
 
-  -- they are prepared
-  pub ranked : {after : List ℕ} → Prepared n t before after → HoldsRanks n t after
-  ranked h =
-      let s = f .small in
-      let l = h .length-kept in
-      record { fits = f; room = omega arith; order = h .order; degrees = h .degrees }
+  -- and what it then is
+  pub ranked : {after : List ℕ} → OrderIn n d before after → HoldsRanks n t d after
+  ranked o =
+      let s = h .fits .small in
+      let l = o .kept .length-kept in
+      record {
+        ordered = record { fits = h .fits; room = omega arith; order = o .order (graphOf n t) refl (h .degrees) };
+        whole = h .degrees-fit .whole;
+        degrees = h .degrees;
+      }
 
 -- ---- the refusal of a call
 
-module _ {n : ℕ} {t : List ℕ} {q : isolation.Settings} {p : Position} {work : ℕ} {ranks memory : List ℕ} {o : Opening} {r : ℕ} (e : r ≡ refuseInput (lent n t) (settingsOf q) (length p) work) where
-  -- refused with one of 1 to 10
-  pub judged-input : r ≢ 0 → o .refusal ≡ r → PageJudged n t q p work ranks memory o
+module _ {n : ℕ} {t d : List ℕ} {q : isolation.Settings} {p : Position} {work : ℕ} {order memory : List ℕ} {o : Opening} {r : ℕ} (e : r ≡ refuseInput (lent n t d) (settingsOf q) (length p) work) where
+  -- refused with one of 1 to 5, 42 and 6 to 10
+  pub judged-input : r ≢ 0 → o .refusal ≡ r → PageJudged n t d q p work order memory o
   unfolding refusePage
-  judged-input d f = record { refusal = f ∙ e ∙ sym (else-found (λ z. d (e ∙ z)) _); accepted = λ z. absurd (d (sym f ∙ z)) }
+  judged-input x f = record { refusal = f ∙ e ∙ sym (else-found (λ z. x (e ∙ z)) _); accepted = λ z. absurd (x (sym f ∙ z)) }
 
   -- by the position where none of these holds
-  pub judged-position : r ≡ 0 → HoldsRanks n t ranks → PositionJudged (graphOf n t) q p memory o → PageJudged n t q p work ranks memory o
+  pub judged-position : r ≡ 0 → HoldsRanks n t d order → PositionJudged (graphOf n t) q p memory o → PageJudged n t d q p work order memory o
   unfolding refusePage
   judged-position z h j = record { refusal = whole; accepted = λ y. record { passes = sym whole ∙ y; ranked = h; stands = j .stands y } }
     where
-      whole : o .refusal ≡ refusePage (lent n t) (settingsOf q) p work
+      whole : o .refusal ≡ refusePage (lent n t d) (settingsOf q) p work
       whole = j .refusal ∙ sym (else-none (sym e ∙ z) _)
 
 -- ---- what an accepted call has
 
-module _ {n : ℕ} {t : List ℕ} {q : isolation.Settings} {p : Position} {work : ℕ} {ranks memory : List ℕ} {s : State} (A : Accepted n t q p work ranks memory s) where
-  parts : (refuseInput (lent n t) (settingsOf q) (length p) work ≡ 0) × (refusePosition (rules (graphOf n t) (settingsOf q)) p ≡ 0)
+module _ {n : ℕ} {t d : List ℕ} {q : isolation.Settings} {p : Position} {work : ℕ} {order memory : List ℕ} {s : State} (A : Accepted n t d q p work order memory s) where
+  parts : (refuseInput (lent n t d) (settingsOf q) (length p) work ≡ 0) × (refusePosition (rules (graphOf n t) (settingsOf q)) p ≡ 0)
   unfolding refusePage
   parts = else-passed _ _ (A .passes)
 
-  input : InputPassed n t q (length p) work
-  input = input-passed n t q (length p) work (parts .0)
+  input : InputPassed n t d q (length p) work
+  input = input-passed n t d q (length p) work (parts .0)
 
   -- what going on asks for
-  pub goes-on : HoldsRanks n t ranks × Stands (graphOf n t) (reopened p) memory s × (8 * n ≤ work) × (over 2 p ≡ false)
+  pub goes-on : HoldsRanks n t d order × Stands (graphOf n t) (reopened p) memory s × (8 * n ≤ work) × (over 2 p ≡ false)
   unfolding refusePosition
   goes-on = (A .ranked, A .stands, input .enough, refuse-pass 20 _ _ (parts .1) .0)
 
   -- what the rounds ask for
-  pub begins : {w : List ℕ} {first : State} → Stands (graphOf n t) p w first → Walking n (settingsOf q) t ranks p w first × FactorFits q
+  pub begins : {w : List ℕ} {first : State} → Stands (graphOf n t) p w first → Walking n (settingsOf q) t d order p w first × FactorFits q
   begins st = (record { simple = input .simple; ranked = A .ranked; stands = st; passes = parts .1 }, input .factor)
 
 -- ---- the ways of a call
