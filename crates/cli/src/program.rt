@@ -12,6 +12,7 @@ use ending::Outcome;
 use ending::last_line;
 use ending::outcome_line;
 use ending::outcome_of;
+use graph::fill_degrees;
 use isolation::Settings;
 use listing::list_all;
 use listing::totals::Listed;
@@ -39,17 +40,20 @@ fn print_room() -> [u8; 49152]
     [0; 49152]
 }
 
-// Prints "one line a group" of a graph of at most 256 vertices.
+// Prints "one line a group" of a graph of at most 256 vertices, with the degrees counted from its table.
 fn list_graph(table: &[u8], n: usize, s: Settings, bytes: &mut [u8]) -> Listed
     requires { ⌜ Listable n (now table) (settingsOf s) ⌝ }
     requires { ⌜ 49152 ≤ length (now bytes) ⌝ }
     ensures { λ r. ⌜ Ran n (now (table .entry)) (settingsOf s) r ⌝ }
 {
+    let mut degrees = [0u16; 256];
+    fill_degrees(table, n, &mut degrees[..n]);
     let mut position = [0u8; 256];
     let mut output = output_room();
     let mut work = work_room();
     list_all(
         table,
+        &degrees[..n],
         &mut position[..n],
         &mut output,
         &mut work,

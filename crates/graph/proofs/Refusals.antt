@@ -9,7 +9,7 @@ use native.Mathlib.Omega.{arith}
 use lib.ListN.{length, getD}
 use lib.Dec.{ltb, eqb}
 use Rattle.model.specs.Below.{any}
-use Rattle.model.specs.Graph.{Graph, byTable, degree}
+use Rattle.model.specs.Graph.{Graph, byTable, degree, degreeList}
 use Rattle.model.specs.Meaning.{Simple}
 use Rattle.model.specs.Calls.{refuse, over, looped, oneWay, refuseTable, refuseDegrees}
 use Rattle.theory.proofs.basics.Tests.{test-self, test-any, any-found, any-none, any-each, not-different, trichotomy}
@@ -85,6 +85,14 @@ module _ (n : ℕ) (t d : List ℕ) where
       → any n (λ v. not (eqb (getD d v 0) (degree (graphOf n t) v))) ≡ b → refuse 42 (a || b) 0 ≡ lent n t d .fault
   unfolding refuseDegrees
   by-list e z p q = rw (p, q) (sym (else-none (sym e ∙ z) _))
+
+  -- a table whose graph's degrees the list holds has no fault with it where it has none by itself,
+  pub lent-listed : lentTable n t .fault ≡ 0 → d ≡ degreeList (graphOf n t) → lent n t d .fault ≡ 0
+  lent-listed e l = else-none e _ ∙ degrees-accepted (graphOf n t) d .1 l
+
+  -- and only there
+  pub lent-table : lent n t d .fault ≡ 0 → lentTable n t .fault ≡ 0
+  lent-table e = else-passed (lentTable n t .fault) _ e .0
 
 -- what a table and a list without a fault have
 pub record LentPassed (n : ℕ) (t d : List ℕ) : Type 0 where

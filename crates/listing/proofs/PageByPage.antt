@@ -25,8 +25,8 @@ use Rattle.theory.proofs.calls.Pages.{replied, page-does, went-finished, chain-
 use Rattle.theory.proofs.calls.Next.{demand-accepted}
 use Rattle.theory.proofs.program.Printed.{held-add}
 use Rattle.theory.proofs.program.Program.{all-groups, pages-begin, pages-listed, pages-print}
-use Rattle.graph.specs.Table.{lent, graphOf}
-use Rattle.graph.proofs.Refusals.{lent-simple}
+use Rattle.graph.specs.Table.{lentTable, lent, graphOf}
+use Rattle.graph.proofs.Refusals.{lent-simple, lent-table}
 use Rattle.print.proofs.Puts.{puts-first}
 use Rattle.rounds.specs.declared.PageAnswer.{PageAnswer}
 use Rattle.rounds.specs.Answer.{PageReplies}
@@ -89,7 +89,7 @@ unfolding leftAt allGroups allSteps
 paged-none e = record { replies = []; chain = tt; left = sym e; all-groups = refl; all-steps = refl }
 
 -- what the pages so far come to, with a flag that says whole only where one of them has said Finished
-paged-ran : {n : ℕ} {t : List ℕ} {s : Settings} → lent n t .fault ≡ 0 → {p : Position} {g k : ℕ} (paged : Paged n t s p g k) (w : Bool)
+paged-ran : {n : ℕ} {t : List ℕ} {s : Settings} → lentTable n t .fault ≡ 0 → {p : Position} {g k : ℕ} (paged : Paged n t s p g k) (w : Bool)
     → (w ≡ true → SomeFinished (paged .replies)) → Ran n t s (record { groups = g; steps = k; whole = w })
 paged-ran {n} {t} {s} valid paged w f =
     let rs = paged .replies in
@@ -113,16 +113,20 @@ paged-ran {n} {t} {s} valid paged w f =
           };
     }
 
-module _ {n : ℕ} {t : List ℕ} {s : Settings} (valid : lent n t .fault ≡ 0) (proper : refuseSettings s ≡ 0) {p : Position} {g k : ℕ}
+module _ {n : ℕ} {t : List ℕ} (d : List ℕ) {s : Settings} (valid : lent n t d .fault ≡ 0) (proper : refuseSettings s ≡ 0) {p : Position} {g k : ℕ}
     (paged : Paged n t s p g k) (out : List ℕ) (work : ℕ) (room : 8 * n ≤ work) where
+  -- so the table by itself has no fault
+  sound : lentTable n t .fault ≡ 0
+  sound = lent-table n t d valid
+
   abbrev R : Rules
   R = rules (graphOf n t) s
 
   abbrev reply : PageReply
-  reply = turnReply n t s p out work
+  reply = turnReply n t d s p out work
 
   law : Lawful R n
-  law = lawful (graphOf n t) (lent-simple n t valid .loopless) s
+  law = lawful (graphOf n t) (lent-simple n t sound .loopless) s
 
   demand : Demand3 R n (paged .replies)
   demand = chain-demand R n law (paged .replies) (paged .chain)
@@ -130,12 +134,12 @@ module _ {n : ℕ} {t : List ℕ} {s : Settings} (valid : lent n t .fault ≡ 0)
   -- the next page is accepted
   accepted : reply .refused ≡ 0
   accepted =
-      subst (λ (q : Position). turnReply n t s q out work .refused ≡ 0) (paged .left)
-      (demand-accepted (turnCall n t s out work) (record { no-fault = valid; simple = lent-simple n t valid; proper = proper; enough = room }) (paged .replies) demand)
+      subst (λ (q : Position). turnReply n t d s q out work .refused ≡ 0) (paged .left)
+      (demand-accepted (turnCall n t d s out work) (record { no-fault = valid; simple = lent-simple n t sound; proper = proper; enough = room }) (paged .replies) demand)
 
   answered : Replied R p reply
   unfolding replyTo
-  answered = replied R (refusePage (lent n t) s p work) (page R 4294967295 (length out) p) p out (λ z. page-does R 4294967295 (length out) p)
+  answered = replied R (refusePage (lent n t d) s p work) (page R 4294967295 (length out) p) p out (λ z. page-does R 4294967295 (length out) p)
 
   paged-more : Paged n t s (reply .position) (held (g + reply .groups)) (held (k + reply .steps))
   paged-more =
@@ -154,12 +158,12 @@ module _ {n : ℕ} {t : List ℕ} {s : Settings} (valid : lent n t .fault ≡ 0)
 
   -- where it does not say Finished, the walk was not finished, and so it makes a step
   paged-falls : reply .stop ≢ stoppedFinished → recordLength n ≤ length out → weight n (reply .position) < weight n p
-  paged-falls d l =
+  paged-falls go-on l =
       subst (λ (q : Position). weight n q < weight n p) (answered .0 .to)
-      (stretch-falls R n law (reply .steps) p fit (call-progress (turnCall n t s out work) p accepted unfinished (omega arith) l) (answered .0 .walking))
+      (stretch-falls R n law (reply .steps) p fit (call-progress (turnCall n t d s out work) p accepted unfinished (omega arith) l) (answered .0 .walking))
     where
       unfinished : finished p ≡ false
-      unfinished = fails (finished p) (λ f. d (answered .1 accepted .1 (went-finished R p _ _ _ _ (answered .0) f)))
+      unfinished = fails (finished p) (λ f. go-on (answered .1 accepted .1 (went-finished R p _ _ _ _ (answered .0) f)))
 
       fit : Fit n p
       fit =
@@ -168,7 +172,7 @@ module _ {n : ℕ} {t : List ℕ} {s : Settings} (valid : lent n t .fault ≡ 0)
 
   -- ---- the same by what a turn leaves
 
-  module _ {before left out' after : List ℕ} {r : PageDone} (turned : Turned n t s p out work before left out' after r) where
+  module _ {before left out' after : List ℕ} {r : PageDone} (turned : Turned n t d s p out work before left out' after r) where
     -- what stands in the buffer is what is printed of the used entries
     pub turned-printed : take (r .printed) after ≡ printed (take (r .used) out')
     turned-printed =
@@ -189,7 +193,7 @@ module _ {n : ℕ} {t : List ℕ} {s : Settings} (valid : lent n t .fault ≡ 0)
       pub turned-ran : (w : Bool) → (w ≡ true → r .finished ≡ true) → Ran n t s (record { groups = g'; steps = k'; whole = w })
       turned-ran w f =
           subst₂ (λ (x y : ℕ). Ran n t s (record { groups = x; steps = y; whole = w })) same-groups same-steps
-          (paged-ran valid paged-more w (λ e. paged-ended (eqb-true _ 1 (sym (turned .finished) ∙ f e))))
+          (paged-ran sound paged-more w (λ e. paged-ended (eqb-true _ 1 (sym (turned .finished) ∙ f e))))
 
     pub turned-falls : r .finished ≡ false → recordLength n ≤ length out → weight n left < weight n p
     turned-falls e l = subst (λ (q : Position). weight n q < weight n p) (sym (turned .position)) (paged-falls (eqb-false _ 1 (sym (turned .finished) ∙ e)) l)

@@ -14,32 +14,32 @@ use Rattle.model.specs.Demand.{leftAt, allSteps, allGroups, SomeFinished}
 use Rattle.model.specs.Program.{groupLines, held}
 use Rattle.theory.specs.Replies.{Chain}
 use Rattle.theory.specs.Printed.{printed, printedPages, Begins}
-use Rattle.graph.specs.Table.{lent, graphOf}
+use Rattle.graph.specs.Table.{lentTable, lent, graphOf}
 use Rattle.listing.specs.declared.PageDone.{PageDone}
 use Rattle.listing.specs.declared.totals.Listed.{Listed}
 use Rattle.print.specs.Put.{Puts}
 
 -- a page call with the largest budget
-abbrev pub turnCall : ℕ → List ℕ → Settings → List ℕ → ℕ → Call
-turnCall n t s out work = record { lent = lent n t; settings = s; budget = 4294967295; output = out; work = work }
+abbrev pub turnCall : ℕ → List ℕ → List ℕ → Settings → List ℕ → ℕ → Call
+turnCall n t d s out work = record { lent = lent n t d; settings = s; budget = 4294967295; output = out; work = work }
 
 -- the reply to it
-abbrev pub turnReply : ℕ → List ℕ → Settings → Position → List ℕ → ℕ → PageReply
-turnReply n t s p out work = replyTo (turnCall n t s out work) p
+abbrev pub turnReply : ℕ → List ℕ → List ℕ → Settings → Position → List ℕ → ℕ → PageReply
+turnReply n t d s p out work = replyTo (turnCall n t d s out work) p
 
 -- a page from p leaves its position, its numbers and its output, and its used entries printed from the buffer's start on
-pub record Turned (n : ℕ) (t : List ℕ) (s : Settings) (p out : List ℕ) (work : ℕ) (bytes left out' printed' : List ℕ) (r : PageDone) : Type 0 where
-  pub position : left ≡ turnReply n t s p out work .position
-  pub finished : r .finished ≡ eqb (turnReply n t s p out work .stop) stoppedFinished
-  pub groups : r .groups ≡ turnReply n t s p out work .groups
-  pub steps : r .steps ≡ turnReply n t s p out work .steps
-  pub used : r .used ≡ turnReply n t s p out work .used
-  pub output : out' ≡ turnReply n t s p out work .output
-  pub puts : Puts bytes 0 (printed (take (turnReply n t s p out work .used) (turnReply n t s p out work .output))) printed' (r .printed)
+pub record Turned (n : ℕ) (t d : List ℕ) (s : Settings) (p out : List ℕ) (work : ℕ) (bytes left out' printed' : List ℕ) (r : PageDone) : Type 0 where
+  pub position : left ≡ turnReply n t d s p out work .position
+  pub finished : r .finished ≡ eqb (turnReply n t d s p out work .stop) stoppedFinished
+  pub groups : r .groups ≡ turnReply n t d s p out work .groups
+  pub steps : r .steps ≡ turnReply n t d s p out work .steps
+  pub used : r .used ≡ turnReply n t d s p out work .used
+  pub output : out' ≡ turnReply n t d s p out work .output
+  pub puts : Puts bytes 0 (printed (take (turnReply n t d s p out work .used) (turnReply n t d s p out work .output))) printed' (r .printed)
 
--- a graph's table and settings without fault, its fresh position, and room for any record, for the work and for what is printed
-pub record ListBegins (n : ℕ) (t : List ℕ) (s : Settings) (p out work bytes : List ℕ) : Type 0 where
-  pub no-fault : lent n t .fault ≡ 0
+-- a graph's table and degree list and settings without fault, its fresh position, and room for any record, for the work and for what is printed
+pub record ListBegins (n : ℕ) (t d : List ℕ) (s : Settings) (p out work bytes : List ℕ) : Type 0 where
+  pub no-fault : lent n t d .fault ≡ 0
   pub settings : refuseSettings s ≡ 0
   pub start : p ≡ fresh n
   pub output : recordLength n ≤ length out
@@ -49,7 +49,7 @@ pub record ListBegins (n : ℕ) (t : List ℕ) (s : Settings) (p out work bytes 
 -- a graph of at most 256 vertices whose table has no fault, with settings that have none
 pub record Listable (n : ℕ) (t : List ℕ) (s : Settings) : Type 0 where
   pub few : n ≤ 256
-  pub no-fault : lent n t .fault ≡ 0
+  pub no-fault : lentTable n t .fault ≡ 0
   pub settings : refuseSettings s ≡ 0
 
 -- replies to page calls, from fresh to the position p, with their totals held

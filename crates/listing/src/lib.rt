@@ -41,6 +41,7 @@ pub struct PageDone {
 // One page with the largest budget, printed into the buffer.
 fn one_page(
     table: &[u8],
+    degrees: &[u16],
     position: &mut [u8],
     output: &mut [u16],
     work: &mut [u16],
@@ -50,12 +51,13 @@ fn one_page(
 ) -> PageDone
     requires { ⌜ 6 * length (now output) ≤ length (now bytes) ⌝ }
     ensures { λ r. ⌜
-        Turned n (now (table .entry)) (settingsOf s) (now (position .entry)) (now (output .entry)) (length (now (work .entry)))
+        Turned n (now (table .entry)) (now (degrees .entry)) (settingsOf s) (now (position .entry)) (now (output .entry)) (length (now (work .entry)))
         (now (bytes .entry)) (now (position .exit)) (now (output .exit)) (now (bytes .exit)) r
         ⌝ }
 {
     let a = page::page(
         table,
+        degrees,
         position,
         output,
         work,
@@ -79,6 +81,7 @@ fn one_page(
 // ends, and the list is cut. Each page makes a step, so this ends.
 pub fn list_all(
     table: &[u8],
+    degrees: &[u16],
     position: &mut [u8],
     output: &mut [u16],
     work: &mut [u16],
@@ -86,13 +89,13 @@ pub fn list_all(
     n: usize,
     s: Settings,
 ) -> Listed
-    requires { ⌜ ListBegins n (now table) (settingsOf s) (now position) (now output) (now work) (now bytes) ⌝ }
+    requires { ⌜ ListBegins n (now table) (now degrees) (settingsOf s) (now position) (now output) (now work) (now bytes) ⌝ }
     ensures { λ r. ⌜ Ran n (now (table .entry)) (settingsOf s) r ⌝ }
 {
     let mut groups: u32 = 0;
     let mut steps: u32 = 0;
     loop {
-        let t = one_page(table, position, output, work, bytes, n, s);
+        let t = one_page(table, degrees, position, output, work, bytes, n, s);
         let written = write_page(bytes, t.printed, output, t.used);
         groups = held_add(groups, t.groups);
         steps = held_add(steps, t.steps);

@@ -24,8 +24,9 @@ slice-aggregate-print-entries c =
 
 print-entries-requires : tie.Need-print-entries-requires
 print-entries-requires c κs =
-    let r = c .before .before .before .before .before .before .before .before .page in
-    omega (arith, length-take (r .result .used) (r .last .1 .1 .0), r .kept .1 .1 .0)
+    let b = c .before .before .before .before .before .before .before .before in
+    let r = b .page in
+    omega (arith, length-take (r .result .used) (r .last .1 .1 .1 .0), r .kept .1 .1 .1 .0, b .before .before .before .before .before .before .before .before .before .before .pre)
 
 returns : tie.Need-returns
 returns c =
