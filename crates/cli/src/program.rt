@@ -40,20 +40,25 @@ fn print_room() -> [u8; 49152]
     [0; 49152]
 }
 
-// Prints "one line a group" of a graph of at most 256 vertices, with the degrees counted from its table.
-fn list_graph(table: &[u8], n: usize, s: Settings, bytes: &mut [u8]) -> Listed
-    requires { ⌜ Listable n (now table) (settingsOf s) ⌝ }
+// Lists the degrees of a graph of at most 256 vertices, and prints "one line a group" of it.
+fn list_with_degrees(
+    table: &[u8],
+    degrees: &mut [u16],
+    n: usize,
+    s: Settings,
+    bytes: &mut [u8],
+) -> Listed
+    requires { ⌜ Listable n (now table) (settingsOf s) × (length (now degrees) ≡ n) ⌝ }
     requires { ⌜ 49152 ≤ length (now bytes) ⌝ }
     ensures { λ r. ⌜ Ran n (now (table .entry)) (settingsOf s) r ⌝ }
 {
-    let mut degrees = [0u16; 256];
-    fill_degrees(table, n, &mut degrees[..n]);
+    fill_degrees(table, n, degrees);
     let mut position = [0u8; 256];
     let mut output = output_room();
     let mut work = work_room();
     list_all(
         table,
-        &degrees[..n],
+        degrees,
         &mut position[..n],
         &mut output,
         &mut work,
@@ -61,6 +66,16 @@ fn list_graph(table: &[u8], n: usize, s: Settings, bytes: &mut [u8]) -> Listed
         n,
         s,
     )
+}
+
+// Prints "one line a group" of a graph of at most 256 vertices.
+fn list_graph(table: &[u8], n: usize, s: Settings, bytes: &mut [u8]) -> Listed
+    requires { ⌜ Listable n (now table) (settingsOf s) ⌝ }
+    requires { ⌜ 49152 ≤ length (now bytes) ⌝ }
+    ensures { λ r. ⌜ Ran n (now (table .entry)) (settingsOf s) r ⌝ }
+{
+    let mut degrees = [0u16; 256];
+    list_with_degrees(table, &mut degrees[..n], n, s, bytes)
 }
 
 // Prints the groups where there is a graph to list. A refusal lists nothing.

@@ -6,7 +6,7 @@ use lib.ListN.{length, take}
 use Rattle.model.specs.Groups.{Settings}
 use Rattle.model.specs.Calls.{refuseSettings}
 use Rattle.model.specs.Program as program
-use Rattle.graph.specs.Table.{lent}
+use Rattle.graph.specs.Table.{lentTable}
 use Rattle.isolation.specs.Numbers.{settingsOf}
 use Rattle.request.specs.declared.verdict.Verdict.{Verdict}
 use Rattle.request.specs.declared.verdict.Verdict.the-variants.{Refused, Listing}
@@ -20,7 +20,7 @@ verdictOf (Listing s n) t = program.listing (settingsOf s) n (take (n * n) t)
 -- a graph that is to be listed has at most 256 vertices, and neither its table nor the settings have a fault
 abbrev pub Fine : Verdict → List ℕ → Type 0
 Fine (Refused k line) t = Unit {0}
-Fine (Listing s n) t = (n ≤ 256) × (n * n ≤ length t) × (lent n (take (n * n) t) .fault ≡ 0) × (refuseSettings (settingsOf s) ≡ 0)
+Fine (Listing s n) t = (n ≤ 256) × (n * n ≤ length t) × (lentTable n (take (n * n) t) .fault ≡ 0) × (refuseSettings (settingsOf s) ≡ 0)
 
 -- a text, with settings that pass, is judged as the definition says
 pub record Judged (s : Settings) (text table : List ℕ) (r : Verdict) : Type 0 where
