@@ -23,19 +23,19 @@ use Rattle.demand.proofs.Repeats.{never-38-demand, compares-lines-deman
 
 -- ---- none of these functions asks for anything
 
-pub page-asks-nothing : AsksNothing 4 page-kinds.ps page.Pre
+pub page-asks-nothing : AsksNothing 5 page-kinds.ps page.Pre
 page-asks-nothing κs a = tt
 
-pub query-asks-nothing : AsksNothing 3 query-kinds.ps query.Pre
+pub query-asks-nothing : AsksNothing 4 query-kinds.ps query.Pre
 query-asks-nothing κs a = tt
 
 pub reader-asks-nothing : AsksNothing 2 reader-kinds.ps reader.Pre
 reader-asks-nothing κs a = tt
 
-pub exported-page-asks-nothing : AsksNothing 4 page-kinds.ps exported-page.Pre
+pub exported-page-asks-nothing : AsksNothing 5 page-kinds.ps exported-page.Pre
 exported-page-asks-nothing κs a = tt
 
-pub exported-query-asks-nothing : AsksNothing 3 query-kinds.ps exported-query.Pre
+pub exported-query-asks-nothing : AsksNothing 4 query-kinds.ps exported-query.Pre
 exported-query-asks-nothing κs a = tt
 
 pub exported-reader-asks-nothing : AsksNothing 2 reader-kinds.ps exported-reader.Pre
@@ -44,7 +44,7 @@ exported-reader-asks-nothing κs a = tt
 -- ---- the page call
 
 -- a contract that is what `Promised` asks of a call
-module _ {Post : Out 4 page-kinds.ps page-kinds.r} (promised : (k : CompiledPage Post) → Promised (callOf k)) where
+module _ {Post : Out 5 page-kinds.ps page-kinds.r} (promised : (k : CompiledPage Post) → Promised (callOf k)) where
   chained-calls : (G : Graph) (s : Settings) (p : Position) (ks : List (CompiledPage Post)) → Chained G s p ks → Calls G s p (map callOf ks)
   chained-calls G s p [] h = tt
   chained-calls G s p (k ∷ ks) h = (record { promised = promised k; handed = h .0; agrees = h .1 }, chained-calls G s (callOf k .position-left) ks (h .2))
@@ -69,11 +69,11 @@ exported-list-demand G s simple ks h = list-demand G s simple (map callOf ks) (c
 
 -- Demand 2 of `query::set_query`.
 pub compiled-query-demand : QueryHolds query.Post
-compiled-query-demand k = query-demand _ _ _ _ _ _ _ _ _ (k .promised)
+compiled-query-demand k = query-demand _ _ _ _ _ _ _ _ _ _ (k .promised)
 
 -- Demand 2 of `isolated_set_query`.
 pub exported-query-demand : QueryHolds exported-query.Post
-exported-query-demand k = query-demand _ _ _ _ _ _ _ _ _ (k .promised)
+exported-query-demand k = query-demand _ _ _ _ _ _ _ _ _ _ (k .promised)
 
 -- ---- the text reader
 

@@ -16,7 +16,7 @@ use Rattle.model.specs.Demand as model
 use Rattle.model.specs.Demand.{joinedOutput, SomeFinished, Demand3}
 use Rattle.theory.proofs.calls.Bounds.{page-bounds}
 use Rattle.theory.proofs.calls.Pages.{call-accepted, call-progress, demand3}
-use Rattle.graph.specs.Table.{lent}
+use Rattle.graph.specs.Table.{lent, graphOf}
 use Rattle.graph.proofs.Refusals.{lent-simple}
 use Rattle.rounds.specs.Answer.{PageReplies}
 use Rattle.demand.specs.Demand.{MadeCall, Promised, reported, Calls, EachCall, Every, PageDemanded, TableCalls, TableDemanded}
@@ -27,7 +27,7 @@ use Rattle.demand.specs.Demand.{MadeCall, Promised, reported, Calls, Eac
 abbrev brought : MadeCall → Call
 brought c =
     record {
-      lent = lent (c .size) (c .table);
+      lent = lent (c .size) (c .table) (c .degrees);
       settings = settings (c .notion) (c .kind) (c .factor);
       budget = c .budget;
       output = c .output;
@@ -87,7 +87,7 @@ each-call c h =
           let e = r .steps in
           omega arith;
       refused-idle = λ d.
-          let i = refused-still (refusePage (lent (c .size) (c .table)) (brought c .settings) (c .position) (length (c .work))) _ (c .position) (c .output) (λ z. d (r .refusal ∙ z)) in
+          let i = refused-still (refusePage (lent (c .size) (c .table) (c .degrees)) (brought c .settings) (c .position) (length (c .work))) _ (c .position) (c .output) (λ z. d (r .refusal ∙ z)) in
           (r .used ∙ i .0, r .groups ∙ i .1, r .steps ∙ i .2, r .position ∙ i .3, r .output ∙ i .4, h .work-kept d);
     }
   where
@@ -115,7 +115,7 @@ demand G s simple cs h =
 -- ---- calls that bring one table
 
 -- calls that bring one table bring its graph, since an accepted call has the n of the position that it is handed
-table-calls : (n : ℕ) (t : List ℕ) (s : Settings) (p : Position) (cs : List MadeCall) → length p ≡ n → TableCalls t s p cs → Calls (lent n t .graph) s p cs
+table-calls : (n : ℕ) (t : List ℕ) (s : Settings) (p : Position) (cs : List MadeCall) → length p ≡ n → TableCalls t s p cs → Calls (graphOf n t) s p cs
 table-calls n t s p [] l h = tt
 table-calls n t s p (c ∷ cs) l h = (
   record {
@@ -124,11 +124,11 @@ table-calls n t s p (c ∷ cs) l h = (
     agrees = λ z.
         let m = sym (call-accepted (brought c) (c .position) (sym (h .0 .replies .refusal) ∙ z) .input .long) ∙ ap length (h .1) ∙ l in
         let e = h .2 z in
-        (λ i. lent (m i) (e .0 i) .graph, e .1);
+        (λ i. graphOf (m i) (e .0 i), e .1);
   },
   table-calls n t s (c .position-left) cs (ap length (h .0 .replies .position) ∙ page-bounds (brought c) (c .position) .position-length ∙ ap length (h .1) ∙ l) (h .3),
 )
 
 -- Demand 3, of any list of calls that bring one table without fault.
 pub table-demand : TableDemanded
-table-demand n t s valid cs h = demand (lent n t .graph) s (lent-simple n t valid) cs (table-calls n t s (fresh n) cs (length-replicate {A = ℕ} n 0) h)
+table-demand n t s valid cs h = demand (graphOf n t) s (lent-simple n t valid) cs (table-calls n t s (fresh n) cs (length-replicate {A = ℕ} n 0) h)

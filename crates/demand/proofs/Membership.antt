@@ -11,6 +11,7 @@ use Rattle.model.specs.Calls.{byBytes, refuseQuery, answerTo}
 use Rattle.model.specs.Groups.{settings, qualifies}
 use Rattle.model.specs.Text.{TextReply}
 use Rattle.theory.proofs.calls.TableFaults.{byte-table}
+use Rattle.theory.proofs.calls.DegreeFaults.{with-degrees}
 use Rattle.theory.proofs.calls.Faults.{query-accepted-iff, query-yes-iff}
 use Rattle.theory.proofs.walk.Listing.{lists}
 use Rattle.theory.proofs.text.EdgeText.{accepted-iff, accepted-reply}
@@ -28,10 +29,11 @@ bit-true false e = absurd (omega arith)
 -- An accepted set query says yes exactly where the set qualifies.
 pub query-demand : QueryDemand
 unfolding answerTo
-query-demand n t set work left notion kind c a h e =
+query-demand n t degrees set work left notion kind c a h e =
     let s = settings notion kind c in
-    let accepted = sym (reply-refused (refuseQuery (lent n t) s set (length work)) (qualifies (graphOf n t) s (byBytes set))) ∙ sym (h .refused) ∙ e in
-    let says = query-yes-iff (byte-table n t) s set (length work) (query-accepted-iff (byte-table n t) s set (length work) .0 accepted) in
+    let accepted = sym (reply-refused (refuseQuery (lent n t degrees) s set (length work)) (qualifies (graphOf n t) s (byBytes set))) ∙ sym (h .refused) ∙ e in
+    let form = with-degrees (byte-table n t) degrees in
+    let says = query-yes-iff form s set (length work) (query-accepted-iff form s set (length work) .0 accepted) in
     (λ y. says .0 (bit-true _ (sym (h .yes) ∙ y)), λ q. h .yes ∙ ap bit (says .1 q))
 
 -- The finished list has exactly the sets that qualify.

@@ -17,7 +17,7 @@ use Rattle.model.specs.Listing.{rules}
 use Rattle.model.specs.Calls.{byBytes}
 use Rattle.model.specs.Demand.{joinedOutput, SomeFinished}
 use Rattle.model.specs.Repeats.{DifferInRepeats}
-use Rattle.graph.specs.Table.{lent, graphOf}
+use Rattle.graph.specs.Table.{graphOf}
 use Rattle.page.proofs.page.Kinds as page-kinds
 use Rattle.query.proofs.set_query.Kinds as query-kinds
 use Rattle.dimacs.proofs.read_text.Kinds as reader-kinds
@@ -40,44 +40,45 @@ AsksNothing m ps Pre = (κs : Lfts m) (a : Dens κs ps) → Pre κs a
 -- ---- the page call
 
 -- a call of a function with the parameters and the answer of `page::page`
-abbrev pub CompiledPage : Out 4 page-kinds.ps page-kinds.r → Type 0
-CompiledPage Post = Compiled 4 page-kinds.ps page-kinds.r Post
+abbrev pub CompiledPage : Out 5 page-kinds.ps page-kinds.r → Type 0
+CompiledPage Post = Compiled 5 page-kinds.ps page-kinds.r Post
 
--- its values: table, position, output, work, n, notion, kind, c, budget
-abbrev pub callOf : {Post : Out 4 page-kinds.ps page-kinds.r} → CompiledPage Post → MadeCall
+-- its values: table, degrees, position, output, work, n, notion, kind, c, budget
+abbrev pub callOf : {Post : Out 5 page-kinds.ps page-kinds.r} → CompiledPage Post → MadeCall
 callOf k =
     let a = k .arguments in
     record {
       table = a .0 .now;
-      position = a .1 .0 .now;
-      output = a .1 .1 .0 .now;
-      work = a .1 .1 .1 .0 .now;
-      size = a .1 .1 .1 .1 .0;
-      notion = a .1 .1 .1 .1 .1 .0;
-      kind = a .1 .1 .1 .1 .1 .1 .0;
-      factor = a .1 .1 .1 .1 .1 .1 .1 .0;
-      budget = a .1 .1 .1 .1 .1 .1 .1 .1 .0;
+      degrees = a .1 .0 .now;
+      position = a .1 .1 .0 .now;
+      output = a .1 .1 .1 .0 .now;
+      work = a .1 .1 .1 .1 .0 .now;
+      size = a .1 .1 .1 .1 .1 .0;
+      notion = a .1 .1 .1 .1 .1 .1 .0;
+      kind = a .1 .1 .1 .1 .1 .1 .1 .0;
+      factor = a .1 .1 .1 .1 .1 .1 .1 .1 .0;
+      budget = a .1 .1 .1 .1 .1 .1 .1 .1 .1 .0;
       answer = k .answer;
-      position-left = k .at-exit .1 .0 .now;
-      output-left = k .at-exit .1 .1 .0 .now;
-      work-left = k .at-exit .1 .1 .1 .0 .now;
+      position-left = k .at-exit .1 .1 .0 .now;
+      output-left = k .at-exit .1 .1 .1 .0 .now;
+      work-left = k .at-exit .1 .1 .1 .1 .0 .now;
     }
 
 -- the first call is handed p, each later one the position as the call before it left it; and every accepted call brings the graph G and the settings s
-abbrev pub Chained : {Post : Out 4 page-kinds.ps page-kinds.r} → Graph → Settings → Position → List (CompiledPage Post) → Type 0
+abbrev pub Chained : {Post : Out 5 page-kinds.ps page-kinds.r} → Graph → Settings → Position → List (CompiledPage Post) → Type 0
 Chained G s p [] = Unit {0}
 Chained G s p (k ∷ ks) =
     (callOf k .position ≡ p)
-    × (callOf k .answer .refusal ≡ 0 → (lent (callOf k .size) (callOf k .table) .graph ≡ G) × (settings (callOf k .notion) (callOf k .kind) (callOf k .factor) ≡ s))
+    × (callOf k .answer .refusal ≡ 0 → (graphOf (callOf k .size) (callOf k .table) ≡ G) × (settings (callOf k .notion) (callOf k .kind) (callOf k .factor) ≡ s))
     × Chained G s (callOf k .position-left) ks
 
 -- Demand 3 of a compiled page call: of every graph of document 01, all settings and any list of its calls that begins at fresh.
-abbrev pub PageHolds : Out 4 page-kinds.ps page-kinds.r → Type 0
+abbrev pub PageHolds : Out 5 page-kinds.ps page-kinds.r → Type 0
 PageHolds Post =
     (G : Graph) (s : Settings) → Simple G → (ks : List (CompiledPage Post)) → Chained G s (fresh (G .size)) ks → PageDemand G s (map callOf ks)
 
 -- Demand 2, the finished list: once a call has said Finished, the joined output is the records of positions that list the sets that qualify.
-abbrev pub ListHolds : Out 4 page-kinds.ps page-kinds.r → Type 0
+abbrev pub ListHolds : Out 5 page-kinds.ps page-kinds.r → Type 0
 ListHolds Post =
     (G : Graph) (s : Settings) → Simple G → (ks : List (CompiledPage Post)) → Chained G s (fresh (G .size)) ks
     → SomeFinished (map reported (map callOf ks))
@@ -85,16 +86,16 @@ ListHolds Post =
 
 -- ---- the set query
 
--- Demand 2 of a compiled set query, with the parameters table, set, work, n, notion, kind, c: accepted, it says yes exactly where the set qualifies.
-abbrev pub QueryHolds : Out 3 query-kinds.ps query-kinds.r → Type 0
+-- Demand 2 of a compiled set query, with the parameters table, degrees, set, work, n, notion, kind, c: accepted, it says yes exactly where the set qualifies.
+abbrev pub QueryHolds : Out 4 query-kinds.ps query-kinds.r → Type 0
 QueryHolds Post =
-    (k : Compiled 3 query-kinds.ps query-kinds.r Post) → k .answer .refusal ≡ 0
+    (k : Compiled 4 query-kinds.ps query-kinds.r Post) → k .answer .refusal ≡ 0
     → let table = k .arguments .0 .now in
-    let set = k .arguments .1 .0 .now in
-    let n = k .arguments .1 .1 .1 .0 in
-    let notion = k .arguments .1 .1 .1 .1 .0 in
-    let kind = k .arguments .1 .1 .1 .1 .1 .0 in
-    let c = k .arguments .1 .1 .1 .1 .1 .1 .0 in
+    let set = k .arguments .1 .1 .0 .now in
+    let n = k .arguments .1 .1 .1 .1 .0 in
+    let notion = k .arguments .1 .1 .1 .1 .1 .0 in
+    let kind = k .arguments .1 .1 .1 .1 .1 .1 .0 in
+    let c = k .arguments .1 .1 .1 .1 .1 .1 .1 .0 in
     (k .answer .yes ≡ 1) ↔ Qualifies (graphOf n table) (settings notion kind c) (byBytes set)
 
 -- ---- the text reader

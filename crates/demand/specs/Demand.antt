@@ -13,13 +13,14 @@ use Rattle.model.specs.Walk.{Position, fresh, finished}
 use Rattle.model.specs.Listing.{rules, recordLength}
 use Rattle.model.specs.Calls.{PageReply}
 use Rattle.model.specs.Demand.{joinedOutput, SomeFinished, Demand3}
-use Rattle.graph.specs.Table.{lent}
+use Rattle.graph.specs.Table.{lentTable, lent, graphOf}
 use Rattle.rounds.specs.declared.PageAnswer.{PageAnswer}
 use Rattle.page.specs.Call.{PageCalled}
 
 -- One call of `page::page`: the values of its arguments, the slices as it was handed them, its answer, and the slices as it left them.
 pub record MadeCall : Type 0 where
   pub table : List ℕ
+  pub degrees : List ℕ
   pub position : Position
   pub output : List ℕ
   pub work : List ℕ
@@ -36,7 +37,7 @@ pub record MadeCall : Type 0 where
 -- the call keeps the promise of `page::page`: these are the words of its `ensures`
 abbrev pub Promised : MadeCall → Type 0
 Promised c =
-    PageCalled (lent (c .size) (c .table)) (settings (c .notion) (c .kind) (c .factor)) (c .budget) (c .position) (c .output) (c .work)
+    PageCalled (lent (c .size) (c .table) (c .degrees)) (settings (c .notion) (c .kind) (c .factor)) (c .budget) (c .position) (c .output) (c .work)
     (c .answer) (c .position-left) (c .output-left) (c .work-left)
 
 -- what a call reported, with the position and the output as it left them
@@ -60,7 +61,7 @@ pub record OneOf (G : Graph) (s : Settings) (p : Position) (c : MadeCall) : Type
   -- it is handed the position as the call before it left it, and nobody else writes it meanwhile
   pub handed : c .position ≡ p
   -- "Every accepted call brings this graph's table and this notion, kind and factor. A refused call may bring anything else beside the position."
-  pub agrees : c .answer .refusal ≡ 0 → (lent (c .size) (c .table) .graph ≡ G) × (settings (c .notion) (c .kind) (c .factor) ≡ s)
+  pub agrees : c .answer .refusal ≡ 0 → (graphOf (c .size) (c .table) ≡ G) × (settings (c .notion) (c .kind) (c .factor) ≡ s)
 
 -- a list of calls of which the first is handed p, and each later one the position as the call before it left it
 abbrev pub Calls : Graph → Settings → Position → List MadeCall → Type 0
@@ -103,4 +104,4 @@ TableCalls t s p (c ∷ cs) =
 
 -- Demand 3 of a graph's table, one without fault: "Every accepted call brings this graph's table and this notion, kind and factor."
 abbrev pub TableDemanded : Type 0
-TableDemanded = (n : ℕ) (t : List ℕ) (s : Settings) → lent n t .fault ≡ 0 → (cs : List MadeCall) → TableCalls t s (fresh n) cs → PageDemand (lent n t .graph) s cs
+TableDemanded = (n : ℕ) (t : List ℕ) (s : Settings) → lentTable n t .fault ≡ 0 → (cs : List MadeCall) → TableCalls t s (fresh n) cs → PageDemand (graphOf n t) s cs

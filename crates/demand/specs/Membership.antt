@@ -24,7 +24,7 @@ use Rattle.demand.specs.Demand.{MadeCall, reported, Calls}
 -- an accepted call of `query::set_query` says yes exactly where the set qualifies
 abbrev pub QueryDemand : Type 0
 QueryDemand =
-    (n : ℕ) (t set work work-left : List ℕ) (notion kind c : ℕ) (a : SetAnswer) → Answers (lent n t) set work work-left notion kind c a → a .refusal ≡ 0
+    (n : ℕ) (t degrees set work work-left : List ℕ) (notion kind c : ℕ) (a : SetAnswer) → Answers (lent n t degrees) set work work-left notion kind c a → a .refusal ≡ 0
     → (a .yes ≡ 1) ↔ Qualifies (graphOf n t) (settings notion kind c) (byBytes set)
 
 -- once a call of `page::page` has said Finished, the joined output is the records of positions that list the sets that qualify: sound, complete, in order

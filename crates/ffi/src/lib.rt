@@ -13,6 +13,7 @@ use rounds::PageAnswer;
 #[no_mangle]
 pub extern "C" fn isolated_page(
     table: &[u8],
+    degrees: &[u16],
     position: &mut [u8],
     output: &mut [u16],
     work: &mut [u16],
@@ -23,17 +24,29 @@ pub extern "C" fn isolated_page(
     budget: u32,
 ) -> PageAnswer
     ensures { λ r. ⌜
-        PageCalled (lent n (now (table .entry))) (settings notion kind c) budget (now (position .entry)) (now (output .entry)) (now (work .entry))
+        PageCalled (lent n (now (table .entry)) (now (degrees .entry))) (settings notion kind c) budget (now (position .entry)) (now (output .entry)) (now (work .entry))
         r (now (position .exit)) (now (output .exit)) (now (work .exit))
         ⌝ }
 {
-    page::page(table, position, output, work, n, notion, kind, c, budget)
+    page::page(
+        table,
+        degrees,
+        position,
+        output,
+        work,
+        n,
+        notion,
+        kind,
+        c,
+        budget,
+    )
 }
 
 // The set query.
 #[no_mangle]
 pub extern "C" fn isolated_set_query(
     table: &[u8],
+    degrees: &[u16],
     set: &[u8],
     work: &mut [u16],
     n: usize,
@@ -41,9 +54,9 @@ pub extern "C" fn isolated_set_query(
     kind: u32,
     c: u32,
 ) -> SetAnswer
-    ensures { λ r. ⌜ Answers (lent n (now (table .entry))) (now (set .entry)) (now (work .entry)) (now (work .exit)) notion kind c r ⌝ }
+    ensures { λ r. ⌜ Answers (lent n (now (table .entry)) (now (degrees .entry))) (now (set .entry)) (now (work .entry)) (now (work .exit)) notion kind c r ⌝ }
 {
-    query::set_query(table, set, work, n, notion, kind, c)
+    query::set_query(table, degrees, set, work, n, notion, kind, c)
 }
 
 // The text reader.

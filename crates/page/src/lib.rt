@@ -66,7 +66,16 @@ pub fn walk_on(
 {
     let first = go_on(opened, table, degrees, order, n, position, memory, work);
     run(
-        table, degrees, order, position, output, work, n, q, first, budget,
+        table,
+        degrees,
+        order,
+        position,
+        output,
+        work,
+        n,
+        q,
+        first,
+        budget,
     )
 }
 
