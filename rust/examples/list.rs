@@ -9,7 +9,7 @@
 //! or the file are refused, 2 where the file was not read or the list is cut; an `end` line is written only in the first
 //! of these cases.
 
-use isolated::{page, read_text, work_entries, Kind, Notion, Settings, Stop, VERTICES};
+use isolated::{page, work_entries, Graph, Kind, Notion, Settings, Stop};
 use std::ffi::OsString;
 use std::io::{self, ErrorKind, IsTerminal, Write};
 use std::path::Path;
@@ -51,11 +51,9 @@ fn list_file(words: &[OsString]) -> Result<(), Failure> {
     };
     let settings = settings(notion, kind, c).map_err(Failure::Refused)?;
     let text = fs::read(file).map_err(|error| Failure::Unread(format!("{}: {error}", Path::new(file).display())))?;
-    let mut table = vec![0; VERTICES * VERTICES];
-    let graph = read_text(&text, &mut table)
+    let graph = Graph::from_text(&text)
         .map_err(|refused| Failure::Refused(format!("{}: {refused}", Path::new(file).display())))?;
-    let n = graph.vertices;
-    list(&table[..n * n], n, settings)
+    list(&graph, settings)
 }
 
 /// The settings that three words name; the library tests the factor's bounds.
@@ -68,14 +66,15 @@ fn settings(notion: &OsString, kind: &OsString, c: &OsString) -> Result<Settings
 }
 
 /// Pages through the walk, writes the groups of each page at once, and the last line once they are all out.
-fn list(table: &[u8], n: usize, settings: Settings) -> Result<(), Failure> {
+fn list(graph: &Graph, settings: Settings) -> Result<(), Failure> {
+    let (table, degrees, n) = (graph.table(), graph.degrees(), graph.vertices());
     let mut position = vec![0; n];
     let mut output = vec![0; ENTRIES];
     let mut work = vec![0; work_entries(n)];
     let (mut groups, mut steps) = (0u64, 0u64);
     let mut progress = Progress::new();
     loop {
-        let done = page(table, &mut position, &mut output, &mut work, n, settings, BUDGET)
+        let done = page(table, degrees, &mut position, &mut output, &mut work, n, settings, BUDGET)
             .map_err(|refusal| Failure::Refused(refusal.to_string()))?;
         groups += u64::from(done.groups);
         steps += u64::from(done.steps);

@@ -1,9 +1,10 @@
-//! The three calls as the static library exports them, with the numbers of document 01 as plain numbers.
+//! The six calls as the static library exports them, with the numbers of document 01 as plain numbers.
 //!
-//! This is `include/isolated.h` in Rust; [`crate::page`], [`crate::set_query`] and [`crate::read_text`] are these calls
-//! over slices. A lent slice is a pointer and then its length in elements. For each call the pointers must be aligned,
-//! and not null unless the header allows it; each must lead to so many elements that may be read, and behind a `*mut`
-//! also written; and what may be written must overlap nothing else that is lent.
+//! This is `include/isolated.h` in Rust; [`crate::page`], [`crate::set_query`], [`crate::join`], [`crate::part`],
+//! [`crate::fill_degrees`] and [`crate::read_text`] are these calls over slices. A lent slice is a pointer and then its
+//! length in elements. For each call the pointers must be aligned, and not null unless the header allows it; each must
+//! lead to so many elements that may be read, and behind a `*mut` also written; and what may be written must overlap
+//! nothing else that is lent.
 
 /// What [`isolated_page`] returns. Where the refusal is not 0, all other numbers are 0.
 #[repr(C)]
@@ -33,6 +34,16 @@ pub struct SetAnswer {
     pub yes: u32,
 }
 
+/// What [`isolated_join`] and [`isolated_part`] return. Where the refusal is not 0, `unchanged` is 0.
+#[repr(C)]
+#[derive(Clone, Copy, Debug, Default, PartialEq, Eq)]
+pub struct EditAnswer {
+    /// 0, or the number of a [`crate::Refusal`].
+    pub refusal: u32,
+    /// 1 where the pair was so already and nothing was written, else 0.
+    pub unchanged: u32,
+}
+
 /// What [`isolated_read_text`] returns. Where the refusal is not 0, `vertices` and `edges` are 0.
 #[repr(C)]
 #[derive(Clone, Copy, Debug, Default, PartialEq, Eq)]
@@ -53,6 +64,8 @@ extern "C" {
     pub fn isolated_page(
         table: *const u8,
         table_length: usize,
+        degrees: *const u16,
+        degrees_length: usize,
         position: *mut u8,
         position_length: usize,
         output: *mut u16,
@@ -70,6 +83,8 @@ extern "C" {
     pub fn isolated_set_query(
         table: *const u8,
         table_length: usize,
+        degrees: *const u16,
+        degrees_length: usize,
         set: *const u8,
         set_length: usize,
         work: *mut u16,
@@ -79,6 +94,37 @@ extern "C" {
         kind: u32,
         c: u32,
     ) -> SetAnswer;
+
+    /// Joins two vertices: see [`crate::join`].
+    pub fn isolated_join(
+        table: *mut u8,
+        table_length: usize,
+        degrees: *mut u16,
+        degrees_length: usize,
+        n: usize,
+        u: usize,
+        v: usize,
+    ) -> EditAnswer;
+
+    /// Parts two vertices: see [`crate::part`].
+    pub fn isolated_part(
+        table: *mut u8,
+        table_length: usize,
+        degrees: *mut u16,
+        degrees_length: usize,
+        n: usize,
+        u: usize,
+        v: usize,
+    ) -> EditAnswer;
+
+    /// Counts the degrees of a graph and returns the refusal's number: see [`crate::fill_degrees`].
+    pub fn isolated_degrees(
+        table: *const u8,
+        table_length: usize,
+        degrees: *mut u16,
+        degrees_length: usize,
+        n: usize,
+    ) -> u32;
 
     /// Reads a graph in the DIMACS edge layout: see [`crate::read_text`].
     pub fn isolated_read_text(text: *const u8, text_length: usize, table: *mut u8, table_length: usize) -> TextAnswer;

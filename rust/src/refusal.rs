@@ -65,6 +65,11 @@ refusals! {
     RepeatedPair = 38, "the pair stood before, in this direction or the other (no call returns this any more)";
     EdgeCount = 39, "M differs from the number of e lines";
     TableShort = 40, "the table has fewer than N * N bytes";
+    /// Tested right after [`Refusal::Symmetry`], before all others.
+    Degrees = 42, "a degree is not the ones in its row, or the list of degrees is not n long";
+    /// [`crate::Graph::asks`] tells this too, of a set.
+    NoVertex = 43, "a vertex is not below n";
+    EqualEnds = 44, "both ends of the pair are the same vertex";
 }
 
 impl Refusal {

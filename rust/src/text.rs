@@ -12,15 +12,15 @@ pub struct TextGraph {
     /// The M of the p line, which is the number of e lines.
     ///
     /// Where a pair is repeated that is more than the graph has edges. Their number is half the sum of the degrees, so
-    /// half the ones among the first N × N bytes of the table:
+    /// half the ones among the first N × N bytes of the table; [`crate::Graph::edges`] tells it.
     ///
     /// ```
+    /// use isolated::{read_text, Graph};
+    ///
     /// # fn main() -> Result<(), isolated::TextRefusal> {
-    /// let mut table = [0; 9];
-    /// let graph = isolated::read_text(b"p edge 3 3\ne 1 2\ne 2 1\ne 2 3\n", &mut table)?;
-    /// let n = graph.vertices;
-    /// let edges = table[..n * n].iter().filter(|&&byte| byte == 1).count() / 2;
-    /// assert_eq!((graph.edges, edges), (3, 2));
+    /// let text = b"p edge 3 3\ne 1 2\ne 2 1\ne 2 3\n";
+    /// let read = read_text(text, &mut [0; 9])?;
+    /// assert_eq!((read.edges, Graph::from_text(text)?.edges()), (3, 2));
     /// # Ok(())
     /// # }
     /// ```
