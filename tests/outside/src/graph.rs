@@ -41,6 +41,11 @@ impl Graph {
         (0..self.n).filter(|&v| self.joined(u, v)).count()
     }
 
+    /// The degree of each vertex, as it is lent beside the table.
+    pub fn degrees(&self) -> Vec<u16> {
+        (0..self.n).map(|u| u16::try_from(self.degree(u)).unwrap()).collect()
+    }
+
     /// The vertex of each rank: least degree first, equal degrees by smaller vertex number.
     pub fn order(&self) -> Vec<usize> {
         let mut order: Vec<usize> = (0..self.n).collect();

@@ -1,8 +1,8 @@
 //! A second opinion on the library, written from documents 01 and 002 alone, and the means to compare the two.
 //!
 //! The reference: `graph`, `cliques` (a Bron-Kerbosch listing), `groups` (filtered by the definitions), `walk` (the
-//! walk as document 01 words it), `calls` (what page and set query reply), `text` (the reader) and `program` (what the
-//! program prints). `lent` and `library` lend guarded memory to the library; `random`, `samples` and `cases` make the
+//! walk as document 01 words it), `calls` (what page, set query and edits reply), `text` (the reader) and `program` (what
+//! the program prints). `lent` and `library` lend guarded memory to the library; `random`, `samples` and `cases` make the
 //! cases.
 
 pub mod calls;

@@ -4,7 +4,8 @@ use outside::calls;
 use outside::cases::cases;
 use outside::graph::Graph;
 use outside::groups::{Reference, Settings};
-use outside::library::{self, PageAnswer, PageRequest, SetAnswer, SetRequest};
+use outside::library::{self, DegreesReply, Edit, EditAnswer, EditReply, EditRequest};
+use outside::library::{PageAnswer, PageRequest, SetAnswer, SetRequest};
 use outside::random::Random;
 use outside::samples;
 use outside::walk::Walk;
@@ -131,7 +132,7 @@ fn the_widest_record() {
     assert_eq!(enough.answer, PageAnswer { stop: 2, groups: 1, steps: 1025, used: 1025, ..PageAnswer::default() });
 }
 
-/// Refusals 1 to 5, 9 and 10 where n is 1,024 or 1,025 and all lengths fit.
+/// Refusals 1 to 5, 42, 9 and 10 where n is 1,024 or 1,025 and all lengths fit.
 #[test]
 fn refusals_at_large_n() {
     let mut random = Random::new(9);
@@ -139,11 +140,14 @@ fn refusals_at_large_n() {
     let over = PageRequest::fresh(&mut random, &Graph::empty(1025), settings, 5, 5);
     assert_eq!(library::page(&over).answer, PageAnswer { refusal: 1, ..PageAnswer::default() });
     let last = 1024 * 1024 - 1;
-    let spoiled: [(u32, fn(&mut PageRequest, usize)); 7] = [
+    let spoiled: [(u32, fn(&mut PageRequest, usize)); 10] = [
         (2, |request, _| request.table.push(0)),
         (3, |request, last| request.table[last] = 2),
         (4, |request, last| request.table[last] = 1),
         (5, |request, last| request.table[last - 1] = 1),
+        (42, |request, _| request.degrees[1023] = 1),
+        (42, |request, _| request.degrees.push(0)),
+        (42, |request, _| request.degrees.truncate(1023)),
         (9, |request, _| request.position.push(0)),
         (10, |request, _| request.work.truncate(8 * 1024 - 1)),
         (21, |request, _| request.position[1023] = 3),
@@ -172,8 +176,20 @@ fn huge_values_of_n() {
             let reply = library::page(&at);
             assert_eq!(reply.answer, PageAnswer { refusal: 1, ..PageAnswer::default() }, "n {n}");
             assert_eq!((reply.position, reply.output), (at.position.clone(), at.output.clone()), "n {n}");
-            let query = SetRequest { table: at.table, set: at.position, work: at.work, n, settings };
+            let PageRequest { table, degrees, position: set, work, .. } = at;
+            let query = SetRequest { table, degrees, set, work, n, settings };
             assert_eq!(library::set_query(&query).answer, SetAnswer { refusal: 1, yes: 0 }, "n {n}");
+            for edit in Edit::BOTH {
+                let request = EditRequest { n, ..EditRequest::of(&graph, 0, 1) };
+                let unchanged = EditReply {
+                    answer: EditAnswer { refusal: 1, unchanged: 0 },
+                    table: graph.table.clone(),
+                    degrees: graph.degrees(),
+                };
+                assert_eq!(library::edit(edit, &request), unchanged, "n {n}");
+            }
+            let counted = library::degrees(&graph.table, &[7, 7], n);
+            assert_eq!(counted, DegreesReply { refusal: 1, degrees: vec![7, 7] }, "n {n}");
         }
     }
 }

@@ -39,7 +39,7 @@ fn next_call(random: &mut Random, reference: &Reference, settings: Settings, pos
 /// Spoils a call in anything beside its position; the call is then refused, or accepted where it is still sound.
 fn spoil(random: &mut Random, request: &mut PageRequest) {
     let n = request.n;
-    match random.below(10) {
+    match random.below(12) {
         0 => request.n = *random.pick(&[n + 1, 1025, usize::MAX, usize::MAX / 2 + 1, 1 << 32, 1 << 63]),
         1 => request.table.push(0),
         2 if n > 0 => request.table[random.below(n * n)] = 2,
@@ -49,9 +49,12 @@ fn spoil(random: &mut Random, request: &mut PageRequest) {
         6 => request.settings.c = *random.pick(&[0, 1025, u32::MAX]),
         7 if n > 0 => request.work.truncate(random.below(8 * n)),
         8 => {
+            let graph = samples::any(random, n + 1);
             request.n = n + 1;
-            request.table = samples::any(random, n + 1).table;
+            (request.degrees, request.table) = (graph.degrees(), graph.table);
         }
+        9 if n > 0 => request.degrees[random.below(n)] ^= 1,
+        10 => request.degrees.push(0),
         _ => request.settings.kind = random.between(2, 300) as u32,
     }
     assert!(calls::page_refusal(request).is_some(), "a spoiled call is refused: {request:?}");
