@@ -20,7 +20,7 @@ constexpr std::size_t claw = 4;
 // What is lent to one call. A slice that is empty is lent with a null pointer, or at the address of `valid`.
 struct Lent {
     std::vector<std::uint8_t> table, bytes;
-    std::vector<std::uint16_t> output, work;
+    std::vector<std::uint16_t> degrees, output, work;
     bool null;
     std::uint8_t valid_byte = 7;
     std::uint16_t valid_entry = 7;
@@ -35,12 +35,12 @@ struct Lent {
     }
     // The work slice is left out: its contents are open where a call is accepted.
     bool same(const Lent &other) const {
-        return table == other.table && bytes == other.bytes && output == other.output &&
+        return table == other.table && degrees == other.degrees && bytes == other.bytes && output == other.output &&
                valid_byte == other.valid_byte && valid_entry == other.valid_entry;
     }
 };
 
-// The claw, with those slices empty whose bit is set in `empty`: table, bytes, output, work.
+// The claw, with those slices empty whose bit is set in `empty`: table, bytes, output, work, degrees.
 Lent lend(unsigned empty, bool null) {
     Lent it;
     it.null = null;
@@ -48,18 +48,31 @@ Lent lend(unsigned empty, bool null) {
     if (!(empty & 2)) it.bytes.assign(claw, 0);
     if (!(empty & 4)) it.output.assign(claw + 1, 9);
     if (!(empty & 8)) it.work.assign(ISOLATED_WORK(claw), 9);
+    if (!(empty & 16)) it.degrees = {3, 1, 1, 1};
     return it;
 }
 
 isolated_page_answer page(Lent &it, std::size_t n, std::uint32_t c, std::uint32_t budget) {
-    return isolated_page(it.at(it.table), it.table.size(), it.at(it.bytes), it.bytes.size(), it.at(it.output),
-                         it.output.size(), it.at(it.work), it.work.size(), n, ISOLATED_MAX, ISOLATED_MAXIMAL_ISOLATED,
-                         c, budget);
+    return isolated_page(it.at(it.table), it.table.size(), it.at(it.degrees), it.degrees.size(), it.at(it.bytes),
+                         it.bytes.size(), it.at(it.output), it.output.size(), it.at(it.work), it.work.size(), n,
+                         ISOLATED_MAX, ISOLATED_MAXIMAL_ISOLATED, c, budget);
 }
 
 isolated_set_answer query(Lent &it, std::size_t n, std::uint32_t c) {
-    return isolated_set_query(it.at(it.table), it.table.size(), it.at(it.bytes), it.bytes.size(), it.at(it.work),
-                              it.work.size(), n, ISOLATED_MAX, ISOLATED_MAXIMAL_ISOLATED, c);
+    return isolated_set_query(it.at(it.table), it.table.size(), it.at(it.degrees), it.degrees.size(), it.at(it.bytes),
+                              it.bytes.size(), it.at(it.work), it.work.size(), n, ISOLATED_MAX,
+                              ISOLATED_MAXIMAL_ISOLATED, c);
+}
+
+using Edit = isolated_edit_answer (*)(std::uint8_t *, std::size_t, std::uint16_t *, std::size_t, std::size_t,
+                                      std::size_t, std::size_t);
+
+isolated_edit_answer edit(Edit call, Lent &it, std::size_t n) {
+    return call(it.at(it.table), it.table.size(), it.at(it.degrees), it.degrees.size(), n, 1, 2);
+}
+
+std::uint32_t degrees(Lent &it, std::size_t n) {
+    return isolated_degrees(it.at(it.table), it.table.size(), it.at(it.degrees), it.degrees.size(), n);
 }
 
 bool same(const isolated_page_answer &a, const isolated_page_answer &b) {
@@ -69,7 +82,7 @@ bool same(const isolated_page_answer &a, const isolated_page_answer &b) {
 
 // Every choice of empty slices, with no vertices and with the claw's, accepted or refused by its factor.
 void pages_and_queries() {
-    for (unsigned empty = 0; empty < 16; empty++) {
+    for (unsigned empty = 0; empty < 32; empty++) {
         for (std::size_t n : {std::size_t(0), claw}) {
             for (std::uint32_t c : {0u, 2u}) {
                 for (std::uint32_t budget : {0u, 1000u}) {
@@ -88,24 +101,53 @@ void pages_and_queries() {
     }
 }
 
+// Every choice of empty slices, with no vertices and with the claw's.
+void edits_and_counts() {
+    for (unsigned empty = 0; empty < 32; empty++) {
+        for (std::size_t n : {std::size_t(0), claw}) {
+            for (Edit call : {isolated_join, isolated_part}) {
+                Lent null = lend(empty, true), valid = lend(empty, false);
+                const isolated_edit_answer a = edit(call, null, n), b = edit(call, valid, n);
+                if (a.refusal != b.refusal || a.unchanged != b.unchanged || !null.same(valid)) {
+                    stop("an edit takes null as an empty slice");
+                }
+            }
+            Lent null = lend(empty, true), valid = lend(empty, false);
+            if (degrees(null, n) != degrees(valid, n) || !null.same(valid)) {
+                stop("a count of the degrees takes null as an empty slice");
+            }
+        }
+    }
+}
+
 // What these calls have to answer.
 void answers() {
-    Lent nothing = lend(15, true);
+    Lent nothing = lend(31, true);
     const isolated_page_answer finished = page(nothing, 0, 1, 0);
     if (finished.refusal != 0 || finished.stop != ISOLATED_STOP_FINISHED) stop("no vertices and no slices: finished");
     if (query(nothing, 0, 1).refusal != 0 || query(nothing, 0, 1).yes != 0) stop("no vertices and no slices: no");
     if (page(nothing, 0, 0, 0).refusal != ISOLATED_REFUSED_FACTOR) stop("no vertices and factor 0: refused");
+    if (degrees(nothing, 0) != ISOLATED_REFUSED_NOT) stop("no vertices have no degrees");
+    for (Edit call : {isolated_join, isolated_part}) {
+        if (edit(call, nothing, 0).refusal != ISOLATED_REFUSED_NO_VERTEX) stop("no vertices and no pair: refused");
+    }
 
     Lent no_output = lend(4, true);
     const isolated_page_answer full = page(no_output, claw, 2, 1000);
     if (full.stop != ISOLATED_STOP_FULL || full.wanted != 2 || full.steps != 7) stop("no output: full at the first group");
 
     const std::uint32_t refusals[] = {ISOLATED_REFUSED_TABLE_LENGTH, ISOLATED_REFUSED_LENGTH, ISOLATED_REFUSED_NOT,
-                                      ISOLATED_REFUSED_WORK};
-    for (unsigned slice = 0; slice < 4; slice++) {
+                                      ISOLATED_REFUSED_WORK, ISOLATED_REFUSED_DEGREES};
+    for (unsigned slice = 0; slice < 5; slice++) {
         Lent it = lend(1u << slice, true);
         if (page(it, claw, 2, 0).refusal != refusals[slice]) stop("a page is refused for the slice it lacks");
         if (query(it, claw, 2).refusal != refusals[slice]) stop("a set query is refused for the slice it lacks");
+    }
+    for (unsigned slice : {0u, 4u}) {
+        Lent it = lend(1u << slice, true);
+        if (edit(isolated_join, it, claw).refusal != refusals[slice]) stop("an edit is refused for the slice it lacks");
+        if (edit(isolated_part, it, claw).refusal != refusals[slice]) stop("an edit is refused for the slice it lacks");
+        if (degrees(it, claw) != refusals[slice]) stop("a count is refused for the slice it lacks");
     }
 }
 
@@ -137,6 +179,7 @@ void reads() {
 
 int main() {
     pages_and_queries();
+    edits_and_counts();
     answers();
     reads();
     return 0;

@@ -13,7 +13,7 @@
 enum { MOST = 1024, OVER = MOST + 1, CLAW = 4 };
 
 static uint8_t table[OVER * OVER], bytes[OVER];
-static uint16_t output[OVER], work[16 * OVER];
+static uint16_t degrees[OVER], output[OVER], work[16 * OVER];
 
 /* What a call told and the macro are both the number; or the macro is, whose effect is tried beside it. */
 #define SAME(told, macro, number) same(#macro, told, macro, number)
@@ -31,18 +31,23 @@ static void hold(const char *what, int holds) {
     exit(1);
 }
 
-/* What a page call and a set query are given; `bytes` is the position or the set. */
+/* What the calls that take a graph are given; `bytes` is the position or the set, u and v are the ends of an edit. */
 typedef struct call {
-    size_t n, table_length, bytes_length, output_length, work_length;
+    size_t n, table_length, degrees_length, bytes_length, output_length, work_length;
     uint32_t notion, kind, c, budget;
+    size_t u, v;
 } call;
 
-static void put(size_t n, size_t u, size_t v) { table[u * n + v] = table[v * n + u] = 1; }
+static void put(size_t n, size_t u, size_t v) {
+    table[u * n + v] = table[v * n + u] = 1;
+    degrees[u]++, degrees[v]++;
+}
 
 /* A call that is accepted, on n vertices with no edge and nothing decided or in the set. */
 static call on_vertices(size_t n) {
-    call it = {n, n * n, n, n + 1, 8 * n, 0, 0, 1, 0};
+    call it = {n, n * n, n, n, n + 1, 8 * n, 0, 0, 1, 0, 0, 1};
     memset(table, 0, sizeof table);
+    memset(degrees, 0, sizeof degrees);
     memset(bytes, 0, sizeof bytes);
     return it;
 }
@@ -57,14 +62,24 @@ static call on_claw(void) {
 }
 
 static isolated_page_answer page(call it) {
-    return isolated_page(table, it.table_length, bytes, it.bytes_length, output, it.output_length, work, it.work_length,
-                         it.n, it.notion, it.kind, it.c, it.budget);
+    return isolated_page(table, it.table_length, degrees, it.degrees_length, bytes, it.bytes_length, output,
+                         it.output_length, work, it.work_length, it.n, it.notion, it.kind, it.c, it.budget);
 }
 
 static isolated_set_answer query(call it) {
-    return isolated_set_query(table, it.table_length, bytes, it.bytes_length, work, it.work_length, it.n, it.notion,
-                              it.kind, it.c);
+    return isolated_set_query(table, it.table_length, degrees, it.degrees_length, bytes, it.bytes_length, work,
+                              it.work_length, it.n, it.notion, it.kind, it.c);
 }
+
+static isolated_edit_answer join(call it) {
+    return isolated_join(table, it.table_length, degrees, it.degrees_length, it.n, it.u, it.v);
+}
+
+static isolated_edit_answer part(call it) {
+    return isolated_part(table, it.table_length, degrees, it.degrees_length, it.n, it.u, it.v);
+}
+
+static uint32_t count(call it) { return isolated_degrees(table, it.table_length, degrees, it.degrees_length, it.n); }
 
 static isolated_text_answer read_text(const char *text, size_t table_length) {
     return isolated_read_text((const uint8_t *)text, strlen(text), table, table_length);
@@ -77,20 +92,70 @@ static isolated_text_answer read_text(const char *text, size_t table_length) {
         SAME(query(it).refusal, macro, number);                                                                        \
     } while (0)
 
+/* What both edits refuse alike, and what all calls refuse that take a graph. */
+#define EDITS_REFUSE(it, macro, number)                                                                                \
+    do {                                                                                                               \
+        SAME(join(it).refusal, macro, number);                                                                         \
+        SAME(part(it).refusal, macro, number);                                                                         \
+    } while (0)
+#define ALL_REFUSE(it, macro, number)                                                                                  \
+    do {                                                                                                               \
+        BOTH_REFUSE(it, macro, number);                                                                                \
+        EDITS_REFUSE(it, macro, number);                                                                               \
+        SAME(count(it), macro, number);                                                                                \
+    } while (0)
+
+static void refusals_of_the_graph(void) {
+    call it = on_claw();
+    ALL_REFUSE(it, ISOLATED_REFUSED_NOT, 0);
+    it = on_claw(), it.n = OVER, it.table_length = OVER * OVER;
+    ALL_REFUSE(it, ISOLATED_REFUSED_VERTICES, 1);
+    it = on_claw(), it.table_length--;
+    ALL_REFUSE(it, ISOLATED_REFUSED_TABLE_LENGTH, 2);
+    it = on_claw(), table[1] = 2;
+    ALL_REFUSE(it, ISOLATED_REFUSED_TABLE_BYTE, 3);
+    it = on_claw(), table[0] = 1;
+    ALL_REFUSE(it, ISOLATED_REFUSED_DIAGONAL, 4);
+    it = on_claw(), table[1] = 0;
+    ALL_REFUSE(it, ISOLATED_REFUSED_SYMMETRY, 5);
+    it = on_claw(), it.degrees_length--;
+    ALL_REFUSE(it, ISOLATED_REFUSED_DEGREES, 42);
+    it = on_claw(), it.degrees_length++;
+    ALL_REFUSE(it, ISOLATED_REFUSED_DEGREES, 42);
+    it = on_claw(), degrees[3]++;
+    BOTH_REFUSE(it, ISOLATED_REFUSED_DEGREES, 42);
+    EDITS_REFUSE(it, ISOLATED_REFUSED_DEGREES, 42);
+    SAME(count(it), ISOLATED_REFUSED_NOT, 0); /* it writes the right one */
+    BOTH_REFUSE(it, ISOLATED_REFUSED_NOT, 0);
+}
+
+static void refusals_of_an_edit(void) {
+    call it = on_claw();
+    it.v = CLAW;
+    EDITS_REFUSE(it, ISOLATED_REFUSED_NO_VERTEX, 43);
+    it = on_claw(), it.u = it.v = CLAW;
+    EDITS_REFUSE(it, ISOLATED_REFUSED_NO_VERTEX, 43);
+    it = on_claw(), it.u = it.v = 3;
+    EDITS_REFUSE(it, ISOLATED_REFUSED_EQUAL_ENDS, 44);
+}
+
+/* The claw without its first edge, joined again, then once more; and parted, then once more. */
+static void edits(void) {
+    call it = on_claw();
+    isolated_edit_answer answer = part(it);
+    hold("a pair is parted", answer.refusal == 0 && answer.unchanged == 0 && table[1] == 0 && table[4] == 0);
+    hold("its degrees follow", degrees[0] == 2 && degrees[1] == 0 && degrees[2] == 1 && degrees[3] == 1);
+    answer = part(it);
+    hold("nothing is left to part", answer.refusal == 0 && answer.unchanged == 1 && degrees[0] == 2);
+    answer = join(it);
+    hold("a pair is joined", answer.refusal == 0 && answer.unchanged == 0 && table[1] == 1 && table[4] == 1);
+    answer = join(it);
+    hold("nothing is left to join", answer.refusal == 0 && answer.unchanged == 1 && degrees[0] == 3);
+}
+
 static void refusals_of_the_input(void) {
     call it = on_claw();
-    BOTH_REFUSE(it, ISOLATED_REFUSED_NOT, 0);
-    it.n = OVER, it.table_length = OVER * OVER;
-    BOTH_REFUSE(it, ISOLATED_REFUSED_VERTICES, 1);
-    it = on_claw(), it.table_length--;
-    BOTH_REFUSE(it, ISOLATED_REFUSED_TABLE_LENGTH, 2);
-    it = on_claw(), table[1] = 2;
-    BOTH_REFUSE(it, ISOLATED_REFUSED_TABLE_BYTE, 3);
-    it = on_claw(), table[0] = 1;
-    BOTH_REFUSE(it, ISOLATED_REFUSED_DIAGONAL, 4);
-    it = on_claw(), table[1] = 0;
-    BOTH_REFUSE(it, ISOLATED_REFUSED_SYMMETRY, 5);
-    it = on_claw(), it.notion = 3;
+    it.notion = 3;
     BOTH_REFUSE(it, ISOLATED_REFUSED_NOTION, 6);
     it = on_claw(), it.kind = 2;
     BOTH_REFUSE(it, ISOLATED_REFUSED_KIND, 7);
@@ -224,6 +289,9 @@ static void version(void) {
 }
 
 int main(int count, char **words) {
+    refusals_of_the_graph();
+    refusals_of_an_edit();
+    edits();
     refusals_of_the_input();
     refusals_of_the_position();
     refusals_of_the_text();

@@ -1,6 +1,7 @@
 /*
  * Each call in a thread that has ISOLATED_STACK bytes of stack for it and a page below them that cannot be touched:
- * page and set query at the deepest search that a graph can ask for, and the reader. Prints what each used.
+ * page and set query at the deepest search that a graph can ask for, the edits, the count of the degrees and the
+ * reader. Prints what each used.
  */
 #define _GNU_SOURCE /* for MAP_ANONYMOUS */
 #include "isolated.h"
@@ -16,7 +17,7 @@
 enum { N = ISOLATED_VERTICES, C = N / 2, UNTOUCHED = 0xa5 };
 
 static uint8_t table[N * N], position[N], set[N];
-static uint16_t output[N + 1], work[ISOLATED_WORK(N)];
+static uint16_t degrees[N], output[N + 1], work[ISOLATED_WORK(N)];
 static char text[12 * N];
 
 static unsigned char *from; /* where the call was made, on the thread's stack */
@@ -45,8 +46,8 @@ static void *ask_page(void *unused) {
     unsigned char here;
     isolated_page_answer answer;
     from = &here;
-    answer = isolated_page(table, sizeof table, position, N, output, N + 1, work, ISOLATED_WORK(N), N, ISOLATED_MAX,
-                           ISOLATED_MAXIMAL_ISOLATED, C, 1);
+    answer = isolated_page(table, sizeof table, degrees, N, position, N, output, N + 1, work, ISOLATED_WORK(N), N,
+                           ISOLATED_MAX, ISOLATED_MAXIMAL_ISOLATED, C, 1);
     answered = answer.refusal == 0 && answer.groups == 1 && output[0] == 1 && output[1] == 0;
     return unused;
 }
@@ -55,9 +56,34 @@ static void *ask_set(void *unused) {
     unsigned char here;
     isolated_set_answer answer;
     from = &here;
-    answer = isolated_set_query(table, sizeof table, set, N, work, ISOLATED_WORK(N), N, ISOLATED_MAX,
+    answer = isolated_set_query(table, sizeof table, degrees, N, set, N, work, ISOLATED_WORK(N), N, ISOLATED_MAX,
                                 ISOLATED_MAXIMAL_ISOLATED, C);
     answered = answer.refusal == 0 && answer.yes == 1;
+    return unused;
+}
+
+static void *ask_join(void *unused) {
+    unsigned char here;
+    isolated_edit_answer answer;
+    from = &here;
+    answer = isolated_join(table, sizeof table, degrees, N, N, 0, N - 1);
+    answered = answer.refusal == 0 && answer.unchanged == 0;
+    return unused;
+}
+
+static void *ask_part(void *unused) {
+    unsigned char here;
+    isolated_edit_answer answer;
+    from = &here;
+    answer = isolated_part(table, sizeof table, degrees, N, N, 0, N - 1);
+    answered = answer.refusal == 0 && answer.unchanged == 0;
+    return unused;
+}
+
+static void *ask_degrees(void *unused) {
+    unsigned char here;
+    from = &here;
+    answered = isolated_degrees(table, sizeof table, degrees, N, N) == 0 && degrees[C - 1] == N - 1;
     return unused;
 }
 
@@ -101,6 +127,9 @@ int main(void) {
     for (int v = 1; v < N; v++) length += (size_t)sprintf(text + length, "e %d %d\n", v, v + 1);
     measure("reader", ask_text, 0);
     make_deepest_graph();
+    measure("degrees", ask_degrees, 0);
+    measure("join", ask_join, 0);
+    measure("part", ask_part, 0);
     set[0] = 1;
     measure("set query", ask_set, ISOLATED_STACK / 2);
     /* Vertex 0 has rank 1: only vertex N - 1, of degree 1, comes before it. */

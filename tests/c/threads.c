@@ -8,6 +8,7 @@
 enum { N = 48, C = 6, THREADS = 4, ROUNDS = 25, ROOM = 4096 };
 
 static uint8_t table[N * N];
+static uint16_t degrees[N];
 
 /* One walk: its settings, and the joined output and the totals of its pages. */
 typedef struct walk {
@@ -24,7 +25,7 @@ static void *list(void *of) {
     isolated_page_answer page;
     it->groups = it->steps = 0, it->used = 0;
     do {
-        page = isolated_page(table, sizeof table, position, N, it->list + it->used, ROOM - it->used, work,
+        page = isolated_page(table, sizeof table, degrees, N, position, N, it->list + it->used, ROOM - it->used, work,
                              ISOLATED_WORK(N), N, it->notion, it->kind, C, 50);
         it->groups += page.groups, it->steps += page.steps, it->used += page.used;
     } while (page.stop == ISOLATED_STOP_SPENT);
@@ -43,6 +44,7 @@ int main(void) {
     for (size_t u = 0; u < N; u++) {
         for (size_t v = 0; v < u; v++) table[u * N + v] = table[v * N + u] = (u * u + v * v) % 7 < 2 || u / 4 == v / 4;
     }
+    if (isolated_degrees(table, sizeof table, degrees, N, N) != ISOLATED_REFUSED_NOT) return 2;
     for (int i = 0; i < THREADS; i++) {
         alone[i].notion = at_once[i].notion = i % 2 == 0 ? ISOLATED_MAX : ISOLATED_MIN;
         alone[i].kind = at_once[i].kind = i / 2 == 0 ? ISOLATED_MAXIMAL_ISOLATED : ISOLATED_ISOLATED_MAXIMAL;
