@@ -5,7 +5,7 @@ use crate::reason::reason;
 use crate::refusals::refused;
 use crate::sentence::sentences;
 use crate::words::{settings_and_vertices, USAGE};
-use isolated::{read_text, Refusal, Settings, VERTICES};
+use isolated::{Refusal, Settings};
 use std::io;
 
 /// What goes to standard output and to standard error, and the exit status: 0 listed, 1 not listed, 2 no answer, 3 two
@@ -17,12 +17,12 @@ pub struct Told {
     pub error: String,
 }
 
-/// Answers a call with these words. `read` gives the text of the graph, and `query` is the library's set query: a table,
-/// a set of one byte a vertex, n and the settings.
+/// Answers a call with these words. `read` gives the text of the graph, and `query` is the library's set query: the graph
+/// that it read, a set of one byte a vertex, and the settings.
 pub fn answer(
     words: &[String],
     read: impl FnOnce() -> io::Result<Vec<u8>>,
-    query: impl FnOnce(&[u8], &[u8], usize, Settings) -> Result<bool, Refusal>,
+    query: impl FnOnce(&isolated::Graph, &[u8], Settings) -> Result<bool, Refusal>,
 ) -> Told {
     let no_answer = |message: String| Told { status: 2, output: String::new(), error: format!("why: {message}\n") };
     let (settings, vertices) = match settings_and_vertices(words) {
@@ -33,21 +33,20 @@ pub fn answer(
         Ok(text) => text,
         Err(error) => return no_answer(format!("standard input was not read: {error}.")),
     };
-    let mut table = vec![0; VERTICES * VERTICES];
-    let n = match read_text(&text, &mut table) {
-        Ok(graph) => graph.vertices,
+    let read = match isolated::Graph::from_text(&text) {
+        Ok(graph) => graph,
         Err(fault) => return no_answer(refused(fault.refusal, &format!(" at line {} of the file", fault.line))),
     };
-    let table = &table[..n * n];
+    let n = read.vertices();
     let set = match members(&vertices, n) {
         Ok(set) => set,
         Err(message) => return no_answer(message),
     };
-    let graph = Graph::of_table(table, n);
+    let graph = Graph::of_table(read.table(), n);
     let reason = reason(&graph, &set, settings);
     let explained = sentences(&graph, &set, settings, &reason);
     let bytes: Vec<u8> = (0..n).map(|v| set.has(v).into()).collect();
-    let verdict = query(table, &bytes, n, settings);
+    let verdict = query(&read, &bytes, settings);
     let shown = match verdict {
         Ok(true) => "library: yes\n".to_owned(),
         Ok(false) => "library: no\n".to_owned(),
@@ -86,10 +85,13 @@ mod tests {
     use super::*;
     use isolated::{set_query, work_entries};
 
+    type Read = isolated::Graph;
+
     const CLAW: &[u8] = b"p edge 4 3\ne 1 2\ne 1 3\ne 1 4\n";
 
-    fn library(table: &[u8], set: &[u8], n: usize, settings: Settings) -> Result<bool, Refusal> {
-        set_query(table, set, &mut vec![0; work_entries(n)], n, settings)
+    fn library(graph: &Read, set: &[u8], settings: Settings) -> Result<bool, Refusal> {
+        let n = graph.vertices();
+        set_query(graph.table(), graph.degrees(), set, &mut vec![0; work_entries(n)], n, settings)
     }
 
     fn words(words: &str) -> Vec<String> {
@@ -111,8 +113,8 @@ mod tests {
         for set in ["", "1", "2", "1 2", "2 3", "1 2 3 4"] {
             for kind in ["0", "1"] {
                 let call = words(&format!("2 {kind} 2 {set}"));
-                let wrong = |table: &[u8], set: &[u8], n, settings| library(table, set, n, settings).map(|yes| !yes);
-                let refusing = |_: &[u8], _: &[u8], _: usize, _: Settings| Err(Refusal::Symmetry);
+                let wrong = |graph: &Read, set: &[u8], settings| library(graph, set, settings).map(|yes| !yes);
+                let refusing = |_: &Read, _: &[u8], _: Settings| Err(Refusal::Symmetry);
                 let told = [answer(&call, || Ok(CLAW.to_vec()), wrong), answer(&call, || Ok(CLAW.to_vec()), refusing)];
                 for told in told {
                     assert_eq!((told.status, told.output.as_str()), (3, ""), "{call:?}");

@@ -1,7 +1,7 @@
 //! The program behind `tools/why`, which says how to call it.
 
 use explain::answer;
-use isolated::{set_query, work_entries, Refusal, Settings};
+use isolated::{set_query, work_entries, Graph, Refusal, Settings};
 use std::env;
 use std::io::{self, IsTerminal, Read, Write};
 use std::process::ExitCode;
@@ -31,6 +31,7 @@ fn standard_input() -> io::Result<Vec<u8>> {
     Ok(text)
 }
 
-fn library(table: &[u8], set: &[u8], n: usize, settings: Settings) -> Result<bool, Refusal> {
-    set_query(table, set, &mut vec![0; work_entries(n)], n, settings)
+fn library(graph: &Graph, set: &[u8], settings: Settings) -> Result<bool, Refusal> {
+    let n = graph.vertices();
+    set_query(graph.table(), graph.degrees(), set, &mut vec![0; work_entries(n)], n, settings)
 }

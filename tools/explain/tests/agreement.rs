@@ -10,15 +10,16 @@ use outside::samples;
 struct Tried {
     n: usize,
     table: Vec<u8>,
+    degrees: Vec<u16>,
     graph: Graph,
     work: Vec<u16>,
 }
 
 impl Tried {
     fn new(sample: &outside::graph::Graph) -> Tried {
-        let (n, table) = (sample.n, sample.table.clone());
+        let (n, table, degrees) = (sample.n, sample.table.clone(), sample.degrees());
         let graph = Graph::of_table(&table, n);
-        Tried { n, table, graph, work: vec![0; work_entries(n)] }
+        Tried { n, table, degrees, graph, work: vec![0; work_entries(n)] }
     }
 
     fn joined(&self, u: usize, v: usize) -> bool {
@@ -57,7 +58,7 @@ impl Tried {
     /// The reason of a set, after its verdict and all that it names have been compared.
     fn check(&mut self, set: &[usize], settings: Settings) -> Reason {
         let reason = reason(&self.graph, &Set::of(set), settings);
-        let verdict = set_query(&self.table, &self.bytes(set), &mut self.work, self.n, settings);
+        let verdict = set_query(&self.table, &self.degrees, &self.bytes(set), &mut self.work, self.n, settings);
         let shown = || format!("{set:?} with {settings} in {:?} is {reason:?}", self.table);
         assert_eq!(verdict, Ok(reason.listed()), "{}", shown());
         let so = match &reason {
@@ -190,10 +191,11 @@ fn cliques_of_dense_graphs() {
 fn sets_of_a_large_graph() {
     let mut random = Random::new(13);
     let mut tried = Tried::new(&samples::scattered(&mut random, 1024));
-    let table = tried.table.clone();
+    let (table, degrees) = (tried.table.clone(), tried.degrees.clone());
     let mut room = Room::new(1024);
     for settings in all_settings([1, 2, 4]) {
-        let groups: Vec<Vec<u16>> = Groups::new(&table, 1024, settings, &mut room).unwrap().take(200).collect();
+        let groups = Groups::new(&table, &degrees, 1024, settings, &mut room).unwrap();
+        let groups: Vec<Vec<u16>> = groups.take(200).collect();
         for _ in 0..20 {
             let mut set = Set::default();
             for &v in random.pick(&groups) {
