@@ -13,6 +13,7 @@ pub fn print() {
     println!("|---|---|---|---|---|");
     for n in [64, 256, 1024] {
         let graph = near_cliques(n);
+        let degrees = graph.degrees();
         let settings = Settings { notion: Notion::Max, kind: Kind::MaximalIsolated, c: 3 };
         let (mut position, mut work) = (vec![0; n], vec![0; work_entries(n)]);
         let times = (1 << 22) / (n * n);
@@ -20,7 +21,7 @@ pub fn print() {
             &mut || {
                 for _ in 0..times {
                     let table = black_box(&graph.table);
-                    black_box(page(table, &mut position, &mut [], &mut work, n, settings, 0)).unwrap();
+                    black_box(page(table, &degrees, &mut position, &mut [], &mut work, n, settings, 0)).unwrap();
                 }
             },
             &mut || {

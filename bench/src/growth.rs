@@ -7,15 +7,16 @@ use isolated::{Groups, Kind, Notion, Room, Settings};
 use std::hint::black_box;
 
 fn grow(name: &str, graph: &Graph, most: u32) {
+    let degrees = graph.degrees();
     let mut before = None;
     for c in 1..=most {
         let settings = Settings { notion: Notion::Max, kind: Kind::MaximalIsolated, c };
         let mut room = Room::with_output(graph.n, 1 << 16);
-        let mut listing = Groups::new(&graph.table, graph.n, settings, &mut room).unwrap();
+        let mut listing = Groups::new(&graph.table, &degrees, graph.n, settings, &mut room).unwrap();
         let groups = listing.by_ref().count();
         let steps = listing.steps();
         let time = medians(&mut [&mut || {
-            let listing = Groups::new(black_box(&graph.table), graph.n, settings, &mut room).unwrap();
+            let listing = Groups::new(black_box(&graph.table), &degrees, graph.n, settings, &mut room).unwrap();
             black_box(listing.count());
         }])[0];
         let grown = before.map_or("".to_string(), |before: f64| format!("{:.2}", time / before));

@@ -9,14 +9,14 @@ use std::hint::black_box;
 
 fn compare(name: &str, graph: &Graph, c: u32) {
     let settings = Settings { notion: Notion::Avg, kind: Kind::IsolatedMaximal, c };
-    let mut room = Room::with_output(graph.n, 1 << 16);
-    let mut listing = Groups::new(&graph.table, graph.n, settings, &mut room).unwrap();
+    let (degrees, mut room) = (graph.degrees(), Room::with_output(graph.n, 1 << 16));
+    let mut listing = Groups::new(&graph.table, &degrees, graph.n, settings, &mut room).unwrap();
     let groups = listing.by_ref().count() as u64;
     let steps = listing.steps();
     assert_eq!(groups, kerbosch::count(graph, settings), "the listings differ");
     let times = medians(&mut [
         &mut || {
-            let listing = Groups::new(black_box(&graph.table), graph.n, settings, &mut room).unwrap();
+            let listing = Groups::new(black_box(&graph.table), &degrees, graph.n, settings, &mut room).unwrap();
             black_box(listing.count());
         },
         &mut || {

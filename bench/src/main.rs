@@ -1,11 +1,13 @@
 //! The library's times beside plain Rust, all in one run. Prints a page in Markdown: trust the ratios, not the times.
 
 mod clock;
+mod edits;
 mod first_page;
 mod graphs;
 mod growth;
 mod kerbosch;
 mod lists;
+mod openings;
 mod reader;
 mod shown;
 mod steps;
@@ -16,6 +18,8 @@ fn main() {
     steps::print();
     twins::print();
     first_page::print();
+    openings::print();
+    edits::print();
     lists::print();
     reader::print();
     growth::print();

