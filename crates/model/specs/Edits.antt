@@ -1,6 +1,6 @@
 -- Document 02, C-12: the calls that join or part a pair, and the call that lists the degrees, as functions of their arguments.
 -- Assumes nothing.
-use Prim.Native.Nat.{ℕ, zero, suc, _+_, _*_, _-_, _≤_, _<_}
+use Prim.Native.Nat.{ℕ, zero, suc, _+_, _*_, _-_, _≤_}
 use mathlib.Core.Path.{_≡_}
 use mathlib.Core.Bool.{Bool, true, false, _&&_, not, Bool·beq}
 use mathlib.Core.Logic.{_↔_, _≢_, _⊎_}
@@ -22,10 +22,14 @@ refusePair n u v = refuse 43 (not (ltb u n && ltb v n)) (refuse 44 (eqb u v) 0)
 unfoldable pub refuseEdit : LentGraph → ℕ → ℕ → ℕ
 refuseEdit L u v = orElse (L .fault) (refusePair (L .graph .size) u v)
 
--- "its two degrees follow": the list with the degree of u one more where the pair is then joined, and one less where it is parted
+-- "its two degrees follow": one more where the pair is then joined, and one less where it is then parted
+unfoldable pub moved : Bool → ℕ → ℕ
+moved true k = k + 1
+moved false k = k - 1
+
+-- the list with the degree of u so
 unfoldable pub recount : Bool → ℕ → List ℕ → List ℕ
-recount true u d = set d u (getD d u 0 + 1)
-recount false u d = set d u (getD d u 0 - 1)
+recount b u d = set d u (moved b (getD d u 0))
 
 -- an edit's answer, and the table and the degree list as it leaves them
 pub record EditReply : Type 0 where
@@ -100,7 +104,11 @@ edits n (e ∷ es) h =
 
 -- ---- the list of degrees
 
--- the answer of the call that lists the degrees, and the list as it leaves it
+-- the refusal number of the call that lists the degrees: what holds the graph is tested first, and then 42 is a list not n long
+unfoldable pub refuseList : LentGraph → List ℕ → ℕ
+refuseList L d = orElse (L .fault) (refuse 42 (not (eqb (length d) (L .graph .size))) 0)
+
+-- its answer, and the list as it leaves it
 pub record DegreesReply : Type 0 where
   pub refused : ℕ
   pub degrees : List ℕ
@@ -110,10 +118,14 @@ unfoldable pub degreesReply : ℕ → Graph → List ℕ → DegreesReply
 degreesReply zero G d = record { refused = 0; degrees = degreeList G }
 degreesReply (suc k) G d = record { refused = suc k; degrees = d }
 
--- The degrees of what is lent as L into a list that is handed as d: what holds the graph is tested first, and then 42 is a list not n long.
+-- the reply to that call on what is lent as L, with a list that is handed as d
 unfoldable pub degreesTo : LentGraph → List ℕ → DegreesReply
-degreesTo L d = degreesReply (orElse (L .fault) (refuse 42 (not (eqb (length d) (L .graph .size))) 0)) (L .graph) d
+degreesTo L d = degreesReply (refuseList L d) (L .graph) d
 
 -- the same of a table of bytes
 abbrev pub degreesCall : ℕ → List ℕ → List ℕ → DegreesReply
 degreesCall n t d = degreesTo (byteTable n t) d
+
+-- the faults of that call on what is lent with these faults
+abbrev pub listFaults : List Fault → ℕ → List ℕ → List Fault
+listFaults faults n d = faults ++ (numbered 42 (length d ≢ n) ∷ [])

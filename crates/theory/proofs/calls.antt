@@ -1,4 +1,4 @@
--- Refusals, page calls and the set query.
+-- Refusals, page calls, the set query, edits and the list of degrees.
 pub mod Fault
 pub mod TableFaults
 pub mod DegreeFaults
@@ -9,3 +9,5 @@ pub mod Bounds
 pub mod Next
 pub mod Pages
 pub mod OneGraph
+pub mod Edits
+pub mod DegreesCall

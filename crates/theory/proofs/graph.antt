@@ -4,5 +4,6 @@ pub mod Ranks
 pub mod Cliques
 pub mod Degrees
 pub mod DegreeList
+pub mod Pairs
 pub mod Factor
 pub mod Meaning

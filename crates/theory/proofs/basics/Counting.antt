@@ -38,6 +38,22 @@ count-remove (suc m) q v h e =
     let b : bit (but q v m) ≡ bit (q m) = ap bit (but-other q v m (λ t. omega arith)) in
     omega arith)
 
+-- two tests that agree but for v count alike but for v
+pub count-but : (m : ℕ) (p q : ℕ → Bool) (v : ℕ) → v < m → ((i : ℕ) → i ≢ v → p i ≡ q i) → count m p + bit (q v) ≡ count m q + bit (p v)
+unfolding count
+count-but zero p q v h f = absurd (not-suc-le-zero h)
+count-but (suc m) p q v h f =
+    last-or-below h
+    (λ s.
+    let a : bit (p v) ≡ bit (p m) = ap (λ (i : ℕ). bit (p i)) s in
+    let b : bit (q v) ≡ bit (q m) = ap (λ (i : ℕ). bit (q i)) s in
+    let c = count-same m p q (λ i l. f i (λ t. omega arith)) in
+    omega arith)
+    (λ l.
+    let a = count-but m p q v l f in
+    let b : bit (p m) ≡ bit (q m) = ap bit (f m (λ t. omega arith)) in
+    omega arith)
+
 -- what passes p is mapped by f, one to one, into what passes q
 pub count-inject : (n m : ℕ) (p q : ℕ → Bool) (f : ℕ → ℕ)
     → ((i : ℕ) → i < n → p i ≡ true → (f i < m) × (q (f i) ≡ true))

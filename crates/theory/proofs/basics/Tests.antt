@@ -4,7 +4,7 @@ use Prim.Native.Nat.{ℕ, zero, suc, _+_, _-_, _≤_, _<_, zero-le}
 use mathlib.Core.Path.{_≡_, refl, sym, ap, ap₂, _∙_, subst}
 use mathlib.Core.List.{List, [], _∷_}
 use mathlib.Core.Logic.{_↔_, _≢_, _⊎_, inl, inr, ⊎-elim}
-use mathlib.Core.Bool.{Bool, true, false, _&&_, _||_, not, false≢true, true≢false}
+use mathlib.Core.Bool.{Bool, true, false, _&&_, _||_, not, Bool·beq, false≢true, true≢false}
 use native.Mathlib.Nat.{not-suc-le-zero, eq-or-lt-of-le, le-of-suc-le-suc, lt-suc-self, le-suc, le-trans}
 use native.Mathlib.Omega.{arith}
 use native.Mathlib.Numerals.{add-one}
@@ -176,6 +176,20 @@ trichotomy (suc a) (suc b) = up (trichotomy a b)
 pub lt-or-ge : (a b : ℕ) → (a < b) ⊎ (b ≤ a)
 lt-or-ge a b = ⊎-elim inl (⊎-elim (λ e. inr (omega arith)) (λ h. inr (omega arith))) (trichotomy a b)
 
+-- a number is the one of two, the other, or neither
+pub one-of-two : (i a b : ℕ) → (i ≡ a) ⊎ (i ≡ b) ⊎ ((i ≢ a) × (i ≢ b))
+one-of-two i a b = first (trichotomy i a)
+  where
+    second : i ≢ a → (i < b) ⊎ (i ≡ b) ⊎ (b < i) → (i ≡ a) ⊎ (i ≡ b) ⊎ ((i ≢ a) × (i ≢ b))
+    second d (inl l) = inr (inr (d, λ e. omega arith))
+    second d (inr (inl e)) = inr (inl e)
+    second d (inr (inr l)) = inr (inr (d, λ e. omega arith))
+
+    first : (i < a) ⊎ (i ≡ a) ⊎ (a < i) → (i ≡ a) ⊎ (i ≡ b) ⊎ ((i ≢ a) × (i ≢ b))
+    first (inl l) = second (λ e. omega arith) (trichotomy i b)
+    first (inr (inl e)) = inl e
+    first (inr (inr l)) = second (λ e. omega arith) (trichotomy i b)
+
 -- numbers that are not different are equal
 pub not-different : (a b : ℕ) → (a ≢ b → ⊥) → a ≡ b
 not-different a b f = ⊎-elim (λ l. absurd (f (λ z. omega arith))) (⊎-elim (λ e. e) (λ l. absurd (f (λ z. omega arith)))) (trichotomy a b)
@@ -250,6 +264,20 @@ any-each n p e i h = fails (p i) (λ q. true≢false (sym (any-found n p i h q) 
 pub passes-or-fails : (a : Bool) → (a ≡ true) ⊎ (a ≡ false)
 passes-or-fails true = inl refl
 passes-or-fails false = inr refl
+
+-- the test whether two outcomes are one
+pub beq-true : (a b : Bool) → Bool·beq a b ≡ true → a ≡ b
+beq-true true true e = refl
+beq-true true false e = absurd (false≢true e)
+beq-true false true e = absurd (false≢true e)
+beq-true false false e = refl
+
+-- and where it fails, each is the other turned round
+pub beq-false : (a b : Bool) → Bool·beq a b ≡ false → a ≡ not b
+beq-false true true e = absurd (true≢false e)
+beq-false true false e = refl
+beq-false false true e = refl
+beq-false false false e = absurd (true≢false e)
 
 -- tests over the numbers below n go by what stands there
 pub any-same : (n : ℕ) (p q : ℕ → Bool) → ((i : ℕ) → i < n → p i ≡ q i) → any n p ≡ any n q

@@ -13,7 +13,7 @@ use Rattle.model.specs.Calls.{refuseDegrees, withDegrees}
 use Rattle.model.specs.Fault.{Fault, FirstFault, NoFault}
 use Rattle.model.specs.Faults.{degreesFaults, Lends}
 use Rattle.theory.proofs.basics.Tests.{test-not, test-or, test-eq, test-any, not-different}
-use Rattle.theory.proofs.basics.Refusals.{else-passed}
+use Rattle.theory.proofs.basics.Refusals.{else-none, else-passed}
 use Rattle.theory.proofs.graph.DegreeList.{degree-list-length, degree-list-at, degree-list-only}
 use Rattle.theory.proofs.calls.Fault.{refuse-first, none-found, first-none, first-else, numbers-both}
 
@@ -55,3 +55,10 @@ with-degrees {faults} {L} form d =
       first = first-else faults _ _ _ (form .numbers) (form .first) (λ none. degrees-first (L .graph) d);
       simple = λ e. form .simple (else-passed (L .fault) _ e .0);
     }
+
+-- It has no fault exactly where what holds the graph has none and the list is that of the graph's degrees.
+pub with-degrees-iff : (L : LentGraph) (d : List ℕ) → (withDegrees L d .fault ≡ 0) ↔ ((L .fault ≡ 0) × (d ≡ degreeList (L .graph)))
+with-degrees-iff L d = (
+  λ e. let a = else-passed (L .fault) _ e in (a .0, degrees-accepted (L .graph) d .0 (a .1)),
+  λ h. else-none (h .0) _ ∙ degrees-accepted (L .graph) d .1 (h .1),
+)

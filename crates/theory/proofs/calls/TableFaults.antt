@@ -14,9 +14,9 @@ use Rattle.model.specs.Meaning.{Simple}
 use Rattle.model.specs.Calls.{over, looped, oneWay, refuseTable, byteTable}
 use Rattle.model.specs.Fault.{FirstFault, NoFault}
 use Rattle.model.specs.Faults.{tableFaults, Lends}
-use Rattle.theory.proofs.basics.Tests.{Test, test-map, test-and, test-not, test-lt, test-eq, test-any, in-length, not-different, fails}
+use Rattle.theory.proofs.basics.Tests.{Test, test-map, test-not, test-lt, test-eq, test-any, in-length, not-different, fails}
 use Rattle.theory.proofs.calls.Fault.{refuse-first, none-found, over-test, first-none}
-use Rattle.theory.proofs.graph.Table.{joined-at}
+use Rattle.theory.proofs.graph.Table.{joined-at, joined-test}
 
 -- no byte is over m
 none-over : (m : ℕ) (bs : List ℕ) → ((i : ℕ) × (i < length bs) × (m < getD bs i 0) → ⊥) → (i : ℕ) → getD bs i 0 ≤ m
@@ -48,15 +48,10 @@ module _ (n : ℕ) (t : List ℕ) where
       (λ r. let h = r .2 in (r .0, r .1, λ z. omega arith, λ z. omega arith))
       (λ r. let f = r .2 in let g = r .3 in (r .0, r .1, omega arith))
 
-  -- two vertices are joined where the byte of their pair is 1
-  pub joined-test : (u v : ℕ) → Test (byTable n t .joined u v) (((u < n) × (v < n)) × (getD t (u * n + v) 0 ≡ 1))
-  unfolding byteJoined amongVertices
-  joined-test u v = test-and (test-and (test-lt u n) (test-lt v n)) (test-eq (getD t (u * n + v) 0) 1)
-
   diagonal-test : Test (looped (byTable n t)) ((u : ℕ) × (u < n) × (getD t (u * n + u) 0 ≡ 1))
   unfolding looped byteJoined amongVertices
   diagonal-test =
-      test-map (test-any n (λ u. byTable n t .joined u u) (λ u. joined-test u u))
+      test-map (test-any n (λ u. byTable n t .joined u u) (λ u. joined-test n t u u))
       (λ r. (r .0, r .1, r .2 .1))
       (λ r. (r .0, r .1, ((r .1, r .1), r .2)))
 

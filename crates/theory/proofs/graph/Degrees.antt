@@ -174,6 +174,11 @@ pub degree-le : (G : Graph) (u : ℕ) → degree G u ≤ G .size
 unfolding degree
 degree-le G u = count-le (G .size) (G .joined u)
 
+-- and that of a vertex with a neighbour is at least 1
+pub degree-some : (G : Graph) (u v : ℕ) → v < G .size → G .joined u v ≡ true → 1 ≤ degree G u
+unfolding degree
+degree-some G u v h e = let r = count-remove (G .size) (G .joined u) v h e in omega arith
+
 -- the least and the largest bound each member's degree, and are some member's
 module _ (G : Graph) (S : VertexSet) where
   pub least-bound : (u : ℕ) → In G S u → leastDegree G S ≤ degree G u

@@ -1,6 +1,6 @@
 -- The byte table as a graph. Assumes nothing.
 use Prim.Native.Nat.{ℕ, _+_, _-_, _*_, _≤_, _<_}
-use mathlib.Core.Path.{_≡_, sym, ap, _∙_}
+use mathlib.Core.Path.{_≡_, sym, ap, ap₂, _∙_}
 use mathlib.Core.Bool.{Bool, true, false, _&&_}
 use mathlib.Core.List.{List}
 use native.Mathlib.Nat.{suc-mul, mul-le-mul-right, le-trans}
@@ -12,7 +12,7 @@ use borrow.Author.Tests.{lt-ltb, ltb-true}
 use mathlib.Core.Logic.{_⊎_, inl, inr}
 use Rattle.model.specs.Below.{count}
 use Rattle.model.specs.Graph.{onVertices, byTable, degree, amongVertices, byteJoined}
-use Rattle.theory.proofs.basics.Tests.{count-same, passes-or-fails}
+use Rattle.theory.proofs.basics.Tests.{Test, test-and, test-lt, test-eq, trichotomy, count-same, passes-or-fails}
 
 -- two tables that agree on the vertices, whatever their layouts, are one graph: every definition then has one value for both
 pub same-graph : (n : ℕ) (f g : ℕ → ℕ → Bool) → ((u v : ℕ) → u < n → v < n → f u v ≡ g u v) → onVertices n f ≡ onVertices n g
@@ -27,6 +27,31 @@ same-graph n f g e = λ i. record { size = n; joined = λ u v. at u v (passes-or
 -- a row ends within the table
 pub row-end : (n u : ℕ) → u < n → u * n + n ≤ n * n
 row-end n u h = le-trans (omega (arith, suc-mul u n)) (mul-le-mul-right n h)
+
+-- a byte stands for one pair only
+pub cell-one : (n a b u v : ℕ) → b < n → v < n → a * n + b ≡ u * n + v → (a ≡ u) × (b ≡ v)
+cell-one n a b u v hb hv e = go (trichotomy a u)
+  where
+    below : (x y c d : ℕ) → x < y → c < n → x * n + c ≡ y * n + d → ⊥
+    below x y c d h hc q = omega (arith, mul-le-mul-right n h, suc-mul x n)
+
+    go : (a < u) ⊎ (a ≡ u) ⊎ (u < a) → (a ≡ u) × (b ≡ v)
+    go (inl h) = absurd (below a u b v h hb e)
+    go (inr (inl q)) = (q, let r : a * n ≡ u * n = ap (λ (x : ℕ). x * n) q in omega arith)
+    go (inr (inr h)) = absurd (below u a v b h hv (sym e))
+
+-- so that the bytes of two pairs that are one are one in the other direction too
+pub cell-turned : (n a b u v : ℕ) → b < n → v < n → a * n + b ≡ u * n + v → b * n + a ≡ v * n + u
+cell-turned n a b u v hb hv e = let q = cell-one n a b u v hb hv e in ap₂ (λ (x y : ℕ). x * n + y) (q .1) (q .0)
+
+-- the byte of two vertices stands within the table
+pub cell-within : (n u v : ℕ) → u < n → v < n → u * n + v < n * n
+cell-within n u v hu hv = omega (arith, row-end n u hu)
+
+-- whether two are joined, for any u and v: they are vertices, and the byte of their pair is 1
+pub joined-test : (n : ℕ) (t : List ℕ) (u v : ℕ) → Test (byTable n t .joined u v) (((u < n) × (v < n)) × (getD t (u * n + v) 0 ≡ 1))
+unfolding byteJoined amongVertices
+joined-test n t u v = test-and (test-and (test-lt u n) (test-lt v n)) (test-eq (getD t (u * n + v) 0) 1)
 
 module _ (n : ℕ) (t : List ℕ) (u : ℕ) (hu : u < n) where
   -- two vertices are joined where the byte of their pair is 1

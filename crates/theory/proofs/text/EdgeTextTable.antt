@@ -5,7 +5,7 @@ use mathlib.Core.Path.{_≡_, refl, sym, ap, ap₂, _∙_, subst, subst₂}
 use mathlib.Core.Logic.{_⊎_, inl, inr, ⊎-elim}
 use mathlib.Core.Bool.{Bool, true, false}
 use mathlib.Core.List.{List, [], _∷_, _++_, List·Memᴰ, List·Memᴰ·head, List·Memᴰ·tail, List·Memᴰ·not-nil, List·Memᴰ·cases-cons, List·Memᴰ·append-cases, List·Memᴰ·eq-of-singleton, Memᴰ·append-left, Memᴰ·append-right}
-use native.Mathlib.Nat.{zero-mul, suc-mul, mul-le-mul-right, not-suc-le-zero, suc-inj}
+use native.Mathlib.Nat.{zero-mul, suc-mul, not-suc-le-zero, suc-inj}
 use native.Mathlib.Omega.{arith}
 use lib.ListN.{length, getD, set, replicate, length-set, length-replicate, getD-replicate}
 use lib.Seq.{getD-set-same, getD-set-other, ext-getD}
@@ -13,26 +13,12 @@ use lib.Dec.{ltb, eqb}
 use borrow.Author.Tests.{ltb-true, ltb-false, eqb-true, eqb-false, eq-eqb}
 use Rattle.model.specs.Graph.{withPair}
 use Rattle.model.specs.EdgeText.{Line, comment, problem, edge, HasPair, Table}
-use Rattle.theory.proofs.basics.Tests.{Test, trichotomy}
-use Rattle.theory.proofs.graph.Table.{row-end}
+use Rattle.theory.proofs.basics.Tests.{Test}
+use Rattle.theory.proofs.graph.Table.{cell-one, cell-within}
+use Rattle.theory.proofs.graph.Pairs.{pair-length, pair-others}
 use Rattle.theory.proofs.text.EdgeTextDrawn.{comment-not-edge, edge-not-problem, edge-first, edge-second}
 
 -- ---- the bytes of a table
-
--- a byte stands for one pair only
-cell-one : (n a b u v : ℕ) → b < n → v < n → a * n + b ≡ u * n + v → (a ≡ u) × (b ≡ v)
-cell-one n a b u v hb hv e = go (trichotomy a u)
-  where
-    below : (x y c d : ℕ) → x < y → c < n → x * n + c ≡ y * n + d → ⊥
-    below x y c d h hc q = omega (arith, mul-le-mul-right n h, suc-mul x n)
-
-    go : (a < u) ⊎ (a ≡ u) ⊎ (u < a) → (a ≡ u) × (b ≡ v)
-    go (inl h) = absurd (below a u b v h hb e)
-    go (inr (inl q)) = (q, let r : a * n ≡ u * n = ap (λ (x : ℕ). x * n) q in omega arith)
-    go (inr (inr h)) = absurd (below u a v b h hv (sym e))
-
-cell-within : (n u v : ℕ) → u < n → v < n → u * n + v < n * n
-cell-within n u v hu hv = omega (arith, row-end n u hu)
 
 -- each byte stands for a pair
 pub record Cell (m n i : ℕ) : Type 0 where
@@ -143,13 +129,12 @@ module _ (n : ℕ) where
     unfolding withPair
     table-joins u v hu hv =
         record {
-          size = length-set (set t (u * n + v) 1) (v * n + u) 1 ∙ length-set t (u * n + v) 1 ∙ a .size;
+          size = pair-length 1 n u v t ∙ a .size;
           joined = λ c d hc hd j. here c d hc hd (joins-last xs (edge (suc u) (suc v)) (suc c) (suc d) j);
           apart = λ c d hc hd f.
-              getD-set-other (set t (u * n + v) 1) (v * n + u) (c * n + d) 1 0
-              (λ e. let q = cell-one n c d v u hd hu e in f (inr (Memᴰ·append-right xs (List·Memᴰ·head (ap₂ edge (ap suc (q .1)) (ap suc (q .0)))))))
-              ∙ getD-set-other t (u * n + v) (c * n + d) 1 0
+              pair-others 1 n u v t (c * n + d)
               (λ e. let q = cell-one n c d u v hd hv e in f (inl (Memᴰ·append-right xs (List·Memᴰ·head (ap₂ edge (ap suc (q .0)) (ap suc (q .1)))))))
+              (λ e. let q = cell-one n c d v u hd hu e in f (inr (Memᴰ·append-right xs (List·Memᴰ·head (ap₂ edge (ap suc (q .1)) (ap suc (q .0)))))))
               ∙ a .apart c d hc hd (λ j. f (joins-more xs (edge (suc u) (suc v) ∷ []) (suc c) (suc d) j));
         }
       where
