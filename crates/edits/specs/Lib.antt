@@ -1,0 +1,2 @@
+-- What the edits and the list of degrees promise.
+pub mod Edits
