@@ -1,6 +1,7 @@
--- Demands 2 and 3 and C-11 hold of the compiled functions `page::page`, `query::set_query` and `dimacs::read_text`, and of the exported ones of crate
--- `ffi` that C and Rust link. Nothing of a contract is restated: `promised` is the contract that the checker proved.
+-- Demands 2 and 3, C-11 and C-12 hold of the compiled functions `page::page`, `query::set_query`, `dimacs::read_text`, `edits::join`, `edits::part` and
+-- `edits::list_degrees`, and of the exported ones of crate `ffi` that C and Rust link. Nothing of a contract is restated: `promised` is the contract that the checker proved.
 -- Assumes nothing.
+use mathlib.Core.Bool.{true, false}
 use mathlib.Core.List.{List, [], _∷_, map}
 use borrow.Fn.Kinds.{Out}
 use Rattle.model.specs.Graph.{Graph}
@@ -12,14 +13,23 @@ use Rattle.query.proofs.set_query.Reads as query
 use Rattle.query.proofs.set_query.Kinds as query-kinds
 use Rattle.dimacs.proofs.read_text.Reads as reader
 use Rattle.dimacs.proofs.read_text.Kinds as reader-kinds
+use Rattle.edits.proofs.join.Reads as join
+use Rattle.edits.proofs.join.Kinds as edit-kinds
+use Rattle.edits.proofs.part.Reads as part
+use Rattle.edits.proofs.list_degrees.Reads as list
+use Rattle.edits.proofs.list_degrees.Kinds as list-kinds
 use Rattle.ffi.proofs.isolated_page.Reads as exported-page
 use Rattle.ffi.proofs.isolated_set_query.Reads as exported-query
 use Rattle.ffi.proofs.isolated_read_text.Reads as exported-reader
+use Rattle.ffi.proofs.isolated_join.Reads as exported-join
+use Rattle.ffi.proofs.isolated_part.Reads as exported-part
+use Rattle.ffi.proofs.isolated_degrees.Reads as exported-list
 use Rattle.demand.specs.Demand.{Promised, Calls}
-use Rattle.demand.specs.Compiled.{AsksNothing, CompiledPage, callOf, Chained, PageHolds, ListHolds, QueryHolds, ReaderHolds, Never38Holds, ComparesLinesHolds, RepeatsHold}
+use Rattle.demand.specs.Compiled.{AsksNothing, CompiledPage, callOf, Chained, PageHolds, ListHolds, QueryHolds, ReaderHolds, Never38Holds, ComparesLinesHolds, RepeatsHold, EditHolds, ListedHolds}
 use Rattle.demand.proofs.Demand.{demand}
 use Rattle.demand.proofs.Membership.{query-demand, list-demand, reader-demand}
 use Rattle.demand.proofs.Repeats.{never-38-demand, compares-lines-demand, repeats-demand}
+use Rattle.demand.proofs.Edits.{edit-demand, listed-demand}
 
 -- ---- none of these functions asks for anything
 
@@ -40,6 +50,24 @@ exported-query-asks-nothing κs a = tt
 
 pub exported-reader-asks-nothing : AsksNothing 2 reader-kinds.ps exported-reader.Pre
 exported-reader-asks-nothing κs a = tt
+
+pub join-asks-nothing : AsksNothing 2 edit-kinds.ps join.Pre
+join-asks-nothing κs a = tt
+
+pub part-asks-nothing : AsksNothing 2 edit-kinds.ps part.Pre
+part-asks-nothing κs a = tt
+
+pub list-asks-nothing : AsksNothing 2 list-kinds.ps list.Pre
+list-asks-nothing κs a = tt
+
+pub exported-join-asks-nothing : AsksNothing 2 edit-kinds.ps exported-join.Pre
+exported-join-asks-nothing κs a = tt
+
+pub exported-part-asks-nothing : AsksNothing 2 edit-kinds.ps exported-part.Pre
+exported-part-asks-nothing κs a = tt
+
+pub exported-list-asks-nothing : AsksNothing 2 list-kinds.ps exported-list.Pre
+exported-list-asks-nothing κs a = tt
 
 -- ---- the page call
 
@@ -104,3 +132,25 @@ exported-compares-lines k = compares-lines-demand _ _ _ _ (k .promised)
 
 pub exported-repeats : RepeatsHold exported-reader.Post
 exported-repeats k l = repeats-demand _ _ _ _ (k .promised) _ _ _ _ (l .promised)
+
+-- ---- the edits and the list of degrees
+
+-- C-12 of `edits::join`, `edits::part` and `edits::list_degrees`.
+pub compiled-join-demand : EditHolds true join.Post
+compiled-join-demand k = edit-demand _ _ _ _ _ _ _ _ _ (k .promised)
+
+pub compiled-part-demand : EditHolds false part.Post
+compiled-part-demand k = edit-demand _ _ _ _ _ _ _ _ _ (k .promised)
+
+pub compiled-degrees-demand : ListedHolds list.Post
+compiled-degrees-demand k = listed-demand _ _ _ _ _ (k .promised)
+
+-- C-12 of `isolated_join`, `isolated_part` and `isolated_degrees`.
+pub exported-join-demand : EditHolds true exported-join.Post
+exported-join-demand k = edit-demand _ _ _ _ _ _ _ _ _ (k .promised)
+
+pub exported-part-demand : EditHolds false exported-part.Post
+exported-part-demand k = edit-demand _ _ _ _ _ _ _ _ _ (k .promised)
+
+pub exported-degrees-demand : ListedHolds exported-list.Post
+exported-degrees-demand k = listed-demand _ _ _ _ _ (k .promised)

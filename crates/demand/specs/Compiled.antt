@@ -1,8 +1,9 @@
--- What demands 2 and 3 and the request C-11 say of a compiled function, over its contract as the checker itself reads it from the function's source
+-- What demands 2 and 3 and the requests C-11 and C-12 say of a compiled function, over its contract as the checker itself reads it from the function's source
 -- and proves it: `Post` is that contract, of the arguments, the answer and the memory at exit.
 -- Assumes nothing.
 use Prim.Native.Nat.{ℕ, _*_, _≤_}
 use mathlib.Core.Path.{_≡_}
+use mathlib.Core.Bool.{Bool}
 use mathlib.Core.Logic.{_↔_}
 use mathlib.Core.List.{List, [], _∷_, map}
 use lib.ListN.{length}
@@ -21,9 +22,12 @@ use Rattle.graph.specs.Table.{graphOf}
 use Rattle.page.proofs.page.Kinds as page-kinds
 use Rattle.query.proofs.set_query.Kinds as query-kinds
 use Rattle.dimacs.proofs.read_text.Kinds as reader-kinds
+use Rattle.edits.proofs.join.Kinds as edit-kinds
+use Rattle.edits.proofs.list_degrees.Kinds as list-kinds
 use Rattle.demand.specs.Demand.{MadeCall, reported, PageDemand}
 use Rattle.demand.specs.Membership.{TextDemand}
 use Rattle.demand.specs.Repeats.{Never38, ComparesLines, SameTable}
+use Rattle.demand.specs.Edits.{EditMade, ListMade}
 
 -- A call of a compiled function: any arguments, answer and memory at exit that its contract allows.
 pub record Compiled (m : ℕ) (ps : List (PK m)) (r : RK m) (Post : Out m ps r) : Type 0 where
@@ -134,3 +138,19 @@ RepeatsHold Post =
     (k l : CompiledRead Post) → DifferInRepeats (textOf k) (textOf l) → k .answer .refusal ≡ 0
     → k .answer .vertices * k .answer .vertices ≤ length (tableLent l)
     → SameTable (tableLent k) (tableLeft k) (k .answer) (tableLent l) (tableLeft l) (l .answer)
+
+-- ---- the edits and the list of degrees
+
+-- C-12 of a compiled edit that joins where b says so, and else parts, with the parameters table, degrees, n, u, v
+abbrev pub EditHolds : Bool → Out 2 edit-kinds.ps edit-kinds.r → Type 0
+EditHolds b Post =
+    (k : Compiled 2 edit-kinds.ps edit-kinds.r Post)
+    → let a = k .arguments in
+    EditMade b (a .1 .1 .0) (a .0 .now) (a .1 .0 .now) (a .1 .1 .1 .0) (a .1 .1 .1 .1 .0) (k .answer) (k .at-exit .0 .now) (k .at-exit .1 .0 .now)
+
+-- C-12 of a compiled call that lists the degrees, with the parameters table, degrees, n
+abbrev pub ListedHolds : Out 2 list-kinds.ps list-kinds.r → Type 0
+ListedHolds Post =
+    (k : Compiled 2 list-kinds.ps list-kinds.r Post)
+    → let a = k .arguments in
+    ListMade (a .1 .1 .0) (a .0 .now) (a .1 .0 .now) (k .answer) (k .at-exit .1 .0 .now)

@@ -1,11 +1,14 @@
 // The calls as C and Rust link them: a static library of exported functions. Each hands its arguments on and repeats the promise of what it calls.
 // A slice passes as its address and its number of elements.
+ghost use mathlib.Core.Bool.{true, false};
 ghost use Rattle.model.specs.Groups.{settings};
 ghost use Rattle.graph.specs.Table.{lent};
 ghost use Rattle.dimacs.specs.Reply.{ReadsAs};
+ghost use Rattle.edits.specs.Edits.{EditReplies, ListReplies};
 ghost use Rattle.page.specs.Call.{PageCalled};
 ghost use Rattle.query.specs.Query.{Answers};
 use dimacs::TextAnswer;
+use edits::EditAnswer;
 use query::SetAnswer;
 use rounds::PageAnswer;
 
@@ -65,4 +68,40 @@ pub extern "C" fn isolated_read_text(text: &[u8], table: &mut [u8]) -> TextAnswe
     ensures { λ r. ⌜ ReadsAs (now (text .entry)) (now (table .entry)) (now (table .exit)) r ⌝ }
 {
     dimacs::read_text(text, table)
+}
+
+// The edit that joins a pair.
+#[no_mangle]
+pub extern "C" fn isolated_join(
+    table: &mut [u8],
+    degrees: &mut [u16],
+    n: usize,
+    u: usize,
+    v: usize,
+) -> EditAnswer
+    ensures { λ r. ⌜ EditReplies true n (now (table .entry)) (now (degrees .entry)) u v r (now (table .exit)) (now (degrees .exit)) ⌝ }
+{
+    edits::join(table, degrees, n, u, v)
+}
+
+// The edit that parts a pair.
+#[no_mangle]
+pub extern "C" fn isolated_part(
+    table: &mut [u8],
+    degrees: &mut [u16],
+    n: usize,
+    u: usize,
+    v: usize,
+) -> EditAnswer
+    ensures { λ r. ⌜ EditReplies false n (now (table .entry)) (now (degrees .entry)) u v r (now (table .exit)) (now (degrees .exit)) ⌝ }
+{
+    edits::part(table, degrees, n, u, v)
+}
+
+// The list of the degrees.
+#[no_mangle]
+pub extern "C" fn isolated_degrees(table: &[u8], degrees: &mut [u16], n: usize) -> u32
+    ensures { λ r. ⌜ ListReplies n (now (table .entry)) (now (degrees .entry)) r (now (degrees .exit)) ⌝ }
+{
+    edits::list_degrees(table, degrees, n)
 }

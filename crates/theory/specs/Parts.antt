@@ -1,4 +1,4 @@
--- Parts of a lent slice, the names of those of the work slice and of the ranks, and what a function leaves of them.
+-- Parts of a lent slice, the names of those of the work slice, and what a function leaves of them.
 -- Assumes nothing.
 use Prim.Native.Nat.{ℕ, _+_, _*_, _≤_, _<_}
 use mathlib.Core.Path.{_≡_}
@@ -26,16 +26,6 @@ leftRanksAt n = 2 * n
 -- part 3: the candidates of the search for a larger clique
 abbrev pub candidatesAt : ℕ → ℕ
 candidatesAt n = 3 * n
-
--- ---- the parts of the ranks
-
--- part 0: the vertices in rank order
-abbrev pub orderAt : ℕ → ℕ
-orderAt n = 0
-
--- part 1: the degrees by vertex
-abbrev pub degreesAt : ℕ → ℕ
-degreesAt n = n
 
 -- ---- what is left as it was
 
