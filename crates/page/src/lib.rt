@@ -93,7 +93,7 @@ fn turned_back(number: u32) -> PageAnswer
     }
 }
 
-// The page call, of any arguments: table, the degrees of its graph, position, output, a work slice, n, notion, kind, the factor c and the budget. It reads
+// The page call, of any arguments: table, the degrees of its graph, position, output, a work slice, n, the settings and the budget. It reads
 // the table and the degrees. A refused call leaves the position, the output and the work slice as they were; an accepted one walks on from the
 // position, at most as many steps as the budget has, and puts the groups that it passes into the output.
 // Nothing that is lent is written before all refusals have passed.
