@@ -70,7 +70,7 @@
  * Time
  *   Each call that takes a graph tests the whole table again, and the list of degrees against it: time in proportion
  *   to n * n, whatever the budget. For an edit that is nearly all. For a page on a sparse graph it is as long as some
- *   n * n / 2 steps, so with budgets much below n * n most of the time goes into these tests.
+ *   n * n / 4 steps, so with budgets much below n * n most of the time goes into these tests.
  *   A step takes time in proportion to n at most, and how many steps a walk has follows from the graph and c alone.
  *   Where all ranks are decided the taken set is tested before the step. Under ISOLATED_AVG and ISOLATED_MAX with
  *   ISOLATED_MAXIMAL_ISOLATED that test may search the common neighbours of an isolated clique, of which there are

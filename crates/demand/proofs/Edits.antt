@@ -9,15 +9,15 @@ use native.Mathlib.Omega.{arith}
 use lib.Dec.{eqb}
 use Rattle.model.specs.Below.{bit}
 use Rattle.model.specs.Fault.{FirstFault}
-use Rattle.model.specs.Edits.{refuseEdit, EditReply, editCall, Edited, refuseList, degreesCall}
+use Rattle.model.specs.Edits.{refuseEdit, EditReply, editCall, Edited, refuseList}
 use Rattle.theory.proofs.calls.TableFaults.{byte-table}
-use Rattle.theory.proofs.calls.DegreeFaults.{with-degrees, with-degrees-iff}
+use Rattle.theory.proofs.calls.DegreeFaults.{with-degrees}
 use Rattle.theory.proofs.calls.Edits.{edit-number, edit-left, edit-first, edited, edit-chains, edit-undone}
 use Rattle.theory.proofs.calls.DegreesCall.{list-number, list-left, list-done, list-first, list-chains}
 use Rattle.graph.specs.Table.{lentTable, lent}
 use Rattle.edits.specs.declared.EditAnswer.{EditAnswer}
-use Rattle.edits.specs.Edits.{EditReplies, ListReplies}
-use Rattle.demand.specs.Edits.{told, EditMade, EditDemand, UndoDemand, MadeEdit, EditsMade, PassesAfter, ChainDemand, ListedDemand}
+use Rattle.edits.specs.Edits.{EditReplies}
+use Rattle.demand.specs.Edits.{told, EditDemand, UndoDemand, ChainDemand, ListedDemand}
 
 -- ---- an edit
 

@@ -12,7 +12,7 @@ use Rattle.model.specs.Walk.{Position, fresh, lasts, fullList}
 use Rattle.model.specs.Listing.{rules}
 use Rattle.model.specs.Text.{readText}
 use Rattle.model.specs.Calls.{byteTable, withDegrees, refuseSettings, refusePage, PageReply, pageCall, byBytes, QueryReply, query}
-use Rattle.model.specs.Edits.{EditReply, editCall, DegreesReply, degreesCall}
+use Rattle.model.specs.Edits.{editCall, degreesCall}
 
 -- the full list has these entries, and the walk this length
 abbrev pub Gives : Graph → Settings → List ℕ → ℕ → Type 0

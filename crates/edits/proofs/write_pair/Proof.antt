@@ -19,24 +19,6 @@ inside c =
     let back = cell-within (c .args .n) (c .args .v) (c .args .u) (p .2) (p .1) in
     (omega (arith, p .0 .whole), omega (arith, p .0 .whole), row-fits (p .0) (p .1) .1)
 
-mul-there : tie.Need-mul-there
-mul-there c = omega (arith, inside c)
-
-add-there : tie.Need-add-there
-add-there c = omega (arith, inside c)
-
-mul-back : tie.Need-mul-back
-mul-back c = omega (arith, inside c)
-
-add-back : tie.Need-add-back
-add-back c = omega (arith, inside c)
-
-slice-write-table : tie.Need-slice-write-table
-slice-write-table c = omega (arith, inside c)
-
-slice-write-table-2 : tie.Need-slice-write-table-2
-slice-write-table-2 c = simp length-set (omega (arith, inside c))
-
 returns : tie.Need-returns
 unfolding withPair
 returns c = refl
@@ -44,4 +26,5 @@ returns c = refl
 pub write-pair-spec : {M : Type 1} → statement M
 write-pair-spec =
     tie.close
-    (tie.spec mul-there add-there mul-back add-back slice-write-table slice-write-table-2 (λ c. search needs) returns)
+    (tie.spec (λ c. omega (arith, inside c)) (λ c. omega (arith, inside c)) (λ c. omega (arith, inside c)) (λ c. omega (arith, inside c)) (λ c. omega (arith, inside c))
+    (λ c. simp length-set (omega (arith, inside c))) (λ c. search needs) returns)

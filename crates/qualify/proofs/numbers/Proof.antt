@@ -1,6 +1,6 @@
 -- `qualify::numbers` meets its contract: it reads what stands at the first and the last taken vertex.
 -- Assumes nothing.
-use Prim.Native.Nat.{ℕ, _+_}
+use Prim.Native.Nat.{ℕ}
 use mathlib.Core.Path.{refl, ap, _∙_}
 use native.Mathlib.Omega.{arith}
 use lib.ListN.{getD}
