@@ -68,8 +68,8 @@
  *   whichever threads. An edit writes the table and the list, so nothing else may run on them meanwhile.
  *
  * Time
- *   Each call that takes a graph tests the whole table again, and the list of degrees against it: time in proportion
- *   to n * n, whatever the budget. For an edit that is nearly all. For a page on a sparse graph it is as long as some
+ *   Each call that takes a graph tests the whole table again, and but for isolated_degrees(), which counts them, the
+ *   degrees against it: time in proportion to n * n, whatever the budget. For an edit that is nearly all. For a page on a sparse graph it is as long as some
  *   n * n / 4 steps, so with budgets much below n * n most of the time goes into these tests.
  *   A step takes time in proportion to n at most, and how many steps a walk has follows from the graph and c alone.
  *   Where all ranks are decided the taken set is tested before the step. Under ISOLATED_AVG and ISOLATED_MAX with
@@ -319,8 +319,8 @@ isolated_edit_answer isolated_join(uint8_t *table, size_t table_length, uint16_t
                                    size_t n, size_t u, size_t v);
 
 /*
- * isolated_part(): parts two vertices; it undoes isolated_join() of the same pair, entry for entry, and the other way
- * round.
+ * isolated_part(): parts two vertices. It undoes an isolated_join() of the same pair that answered unchanged 0, entry
+ * for entry, and isolated_join() undoes such an isolated_part().
  *
  *   table, table_length      the graph. table_length is n * n. The bytes u * n + v and v * n + u are set to 0.
  *   degrees, degrees_length  its degrees. degrees_length is n. The entries u and v are lowered by 1.

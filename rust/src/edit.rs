@@ -41,8 +41,8 @@ pub fn join(table: &mut [u8], degrees: &mut [u16], n: usize, u: usize, v: usize)
 
 /// Parts u and v, and says whether that changed the graph: not where they are parted already.
 ///
-/// The pair's byte in both rows becomes 0 and its two degrees are lowered by 1; else as [`join`], which it undoes entry
-/// for entry.
+/// The pair's byte in both rows becomes 0 and its two degrees are lowered by 1; else as [`join`]. Of the same pair it
+/// undoes, entry for entry, a [`join`] that changed the graph.
 ///
 /// # Errors
 ///

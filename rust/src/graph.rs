@@ -155,8 +155,8 @@ impl Graph {
         join(&mut self.table, &mut self.degrees, self.n, u, v)
     }
 
-    /// Parts two vertices, and says whether that changed the graph: not where they are parted already. It undoes
-    /// [`Graph::join`].
+    /// Parts two vertices, and says whether that changed the graph: not where they are parted already. It undoes a
+    /// [`Graph::join`] of the two that changed the graph.
     ///
     /// ```
     /// # fn main() -> Result<(), isolated::Refusal> {

@@ -11,7 +11,7 @@ use Rattle.model.specs.Walk.{Position, found}
 use Rattle.model.specs.Listing.{takenList, rules}
 use Rattle.theory.specs.Search.{joinedAll}
 use Rattle.graph.specs.Degrees.{DegreesFit}
-use Rattle.ranks.specs.Ranks.{Ordered, HoldsRanks}
+use Rattle.ranks.specs.Ranks.{OrderOf, HoldsRanks}
 use Rattle.isolation.specs.declared.Settings.{Settings}
 use Rattle.isolation.specs.declared.Tally.{Tally}
 use Rattle.isolation.specs.Numbers.{settingsOf, FactorFits}
@@ -31,7 +31,7 @@ candidatesOf G p = joinedOf G (takenList G p) (map (vertexAt G) (leftRanks G p))
 
 -- what `candidates` asks for: the graph's rank order, taken vertices in part 1 of the work slice and left ranks in part 2
 pub record Sifts (n : ℕ) (t order w : List ℕ) (taken left : ℕ) : Type 0 where
-  pub ordered : Ordered n t order
+  pub ordered : OrderOf n t order
   pub room : 8 * n ≤ length w
   pub few-taken : taken ≤ n
   pub few-left : left ≤ n

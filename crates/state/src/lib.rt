@@ -9,7 +9,7 @@ ghost use Rattle.model.specs.Listing.{is};
 ghost use Rattle.model.specs.Calls.{over, gap, reopened};
 ghost use Rattle.theory.specs.Parts.{membersAt};
 ghost use Rattle.graph.specs.Table.{graphOf};
-ghost use Rattle.ranks.specs.Ranks.{Ordered, HoldsRanks};
+ghost use Rattle.ranks.specs.Ranks.{OrderOf, HoldsRanks};
 ghost use Rattle.isolation.specs.Numbers.{FactorFits};
 ghost use Rattle.state.specs.State.{Stands, StandsForOne, SaysFinished, SaysDead, Copied};
 ghost use Rattle.state.specs.NextRank.{Pushed, Misses, LeftOnceTaken};
@@ -92,7 +92,7 @@ fn misses_one(table: &[u8], n: usize, work: &[u16], k: usize, v: usize) -> bool
 // ranks", after documents 000, section 2, and 002, section 2.2: the pivot is the member of lowest rank, one of least degree. So it stays where something is taken. Else it
 // is d, and the ranks below d, which are all left, are looked through once.
 fn left_once_taken(s: State, table: &[u8], order: &[u16], n: usize, work: &mut [u16]) -> usize
-    requires { ⌜ Ordered n (now table) (now order) × StandsForOne (graphOf n (now table)) (now work) s × (s .decided < n) ⌝ }
+    requires { ⌜ OrderOf n (now table) (now order) × StandsForOne (graphOf n (now table)) (now work) s × (s .decided < n) ⌝ }
     ensures { λ m. ⌜ LeftOnceTaken (graphOf n (now (table .entry))) (now (work .entry)) s (now (work .exit)) m ⌝ }
 {
     let d = s.decided;
@@ -146,7 +146,7 @@ pub fn push_taken(
 
 // The state with the next rank left: a neighbour of the pivot goes onto part 2. Does not touch the position.
 pub fn push_left(s: State, table: &[u8], order: &[u16], n: usize, work: &mut [u16]) -> State
-    requires { ⌜ Ordered n (now table) (now order) × StandsForOne (graphOf n (now table)) (now work) s × (s .decided < n) ⌝ }
+    requires { ⌜ OrderOf n (now table) (now order) × StandsForOne (graphOf n (now table)) (now work) s × (s .decided < n) ⌝ }
     ensures { λ r. ⌜ Pushed (graphOf n (now (table .entry))) 2 (now (work .entry)) s (now (work .exit)) r ⌝ }
 {
     let d = s.decided;

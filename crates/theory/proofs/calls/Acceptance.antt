@@ -14,7 +14,7 @@ use Rattle.model.specs.Listing.{rules}
 use Rattle.model.specs.Calls.{refuseSettings, refuseLengths, refuseInput, refusePosition, refusePage}
 use Rattle.theory.proofs.basics.Refusals.{refuse-pass, refuse-on, else-none, else-passed}
 
--- refusals 1 to 10 all pass
+-- the refusals of what is lent, and 6 to 10, all pass
 pub record InputAccepted (L : LentGraph) (s : Settings) (bytes work : ℕ) : Type 0 where
   pub no-fault : L .fault ≡ 0
   pub proper : refuseSettings s ≡ 0
