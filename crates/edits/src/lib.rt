@@ -63,7 +63,8 @@ fn move_degree(degrees: &mut [u16], w: usize, joins: bool)
 }
 
 // Joins the pair of u and v of the graph on n vertices where `joins` says so, and parts it otherwise: both its bytes in the table, and its two degrees in
-// the list. Where the pair is so already, and where the edit is refused, it writes nothing. Past the refusals it reads one byte.
+// the list. Where the pair is so already, and where the edit is refused, it writes nothing. Past the refusals it reads one byte of the
+// table and two degrees.
 fn edit(
     table: &mut [u8],
     degrees: &mut [u16],

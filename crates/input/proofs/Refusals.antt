@@ -7,13 +7,11 @@ use mathlib.Core.Logic.{_≢_}
 use borrow.Author.Tests.{lt-ltb, le-ltb, eq-eqb, ne-eqb}
 use Rattle.model.specs.Graph.{LentGraph}
 use Rattle.model.specs.Groups.{Settings}
-use Rattle.model.specs.Meaning.{Simple}
 use Rattle.model.specs.Calls.{refuse, refuseSettings, refuseLengths, refuseInput}
 use Rattle.theory.proofs.basics.Refusals.{else-none, else-found}
 use Rattle.theory.proofs.calls.Acceptance.{input-accepted-iff}
-use Rattle.graph.specs.Table.{TableFits, lent, graphOf}
-use Rattle.graph.specs.Degrees.{DegreesFit, HoldsDegrees}
-use Rattle.graph.proofs.Refusals.{lent-passed}
+use Rattle.graph.specs.Table.{lent}
+use Rattle.graph.proofs.Refusals.{LentPassed, lent-passed}
 use Rattle.isolation.specs.declared.Settings as code
 use Rattle.isolation.specs.Numbers.{settingsOf, FactorFits}
 use Rattle.isolation.proofs.Refusals.{factor-fits}
@@ -58,10 +56,7 @@ module _ (L : LentGraph) (s : Settings) (bytes work : ℕ) where
 
 -- what a call has that passes 1 to 5, 42 and 6 to 10
 pub record InputPassed (n : ℕ) (t d : List ℕ) (q : code.Settings) (bytes work : ℕ) : Type 0 where
-  pub fits : TableFits n t
-  pub simple : Simple (graphOf n t)
-  pub degrees-fit : DegreesFit n d
-  pub degrees : HoldsDegrees n (graphOf n t) d
+  pub graph : LentPassed n t d
   pub factor : FactorFits q
   pub long : bytes ≡ n
   pub enough : 8 * n ≤ work
@@ -70,12 +65,8 @@ pub record InputPassed (n : ℕ) (t d : List ℕ) (q : code.Settings) (bytes wor
 pub input-passed : (n : ℕ) (t d : List ℕ) (q : code.Settings) (bytes work : ℕ) → refuseInput (lent n t d) (settingsOf q) bytes work ≡ 0 → InputPassed n t d q bytes work
 input-passed n t d q bytes work e =
     let a = input-accepted-iff (lent n t d) (settingsOf q) bytes work .0 e in
-    let h = lent-passed n t d (a .no-fault) in
     record {
-      fits = h .fits;
-      simple = h .simple;
-      degrees-fit = h .degrees-fit;
-      degrees = h .degrees;
+      graph = lent-passed n t d (a .no-fault);
       factor = factor-fits q (a .proper);
       long = a .long;
       enough = a .enough;

@@ -36,18 +36,18 @@ module _ {n : ℕ} {t d : List ℕ} {q : isolation.Settings} {bytes work : ℕ} 
   -- what filling it asks for
   pub order-asks : DegreesFit n d × DegreesUpTo n d × OrderFits n before
   order-asks =
-      let s = h .fits .small in
-      (h .degrees-fit, λ v l. omega (arith, h .degrees v l, table-degree n t v), record { small = s; room = omega arith })
+      let s = h .graph .fits .small in
+      (h .graph .degrees-fit, λ v l. omega (arith, h .graph .degrees v l, table-degree n t v), record { small = s; room = omega arith })
 
   -- and what it then is
   pub ranked : {after : List ℕ} → OrderIn n d before after → HoldsRanks n t d after
   ranked o =
-      let s = h .fits .small in
+      let s = h .graph .fits .small in
       let l = o .kept .length-kept in
       record {
-        ordered = record { fits = h .fits; room = omega arith; order = o .order (graphOf n t) refl (h .degrees) };
-        whole = h .degrees-fit .whole;
-        degrees = h .degrees;
+        ordered = record { fits = h .graph .fits; room = omega arith; order = o .order (graphOf n t) refl (h .graph .degrees) };
+        whole = h .graph .degrees-fit .whole;
+        degrees = h .graph .degrees;
       }
 
 -- ---- the refusal of a call
@@ -83,7 +83,7 @@ module _ {n : ℕ} {t d : List ℕ} {q : isolation.Settings} {p : Position} {wor
 
   -- what the rounds ask for
   pub begins : {w : List ℕ} {first : State} → Stands (graphOf n t) p w first → Walking n (settingsOf q) t d order p w first × FactorFits q
-  begins st = (record { simple = input .simple; ranked = A .ranked; stands = st; passes = parts .1 }, input .factor)
+  begins st = (record { simple = input .graph .simple; ranked = A .ranked; stands = st; passes = parts .1 }, input .factor)
 
 -- ---- the ways of a call
 

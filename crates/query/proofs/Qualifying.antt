@@ -67,13 +67,13 @@ module _ {n : ℕ} {t d bs w₀ : List ℕ} {s : Settings} (ready : QueryReady n
   accepted = query-accepted n t d s bs (length w₀) (ready .accepted)
 
   loopless : Loopless graph
-  loopless = accepted .simple .loopless
+  loopless = accepted .graph .simple .loopless
 
   symmetric : Symmetric graph
-  symmetric = accepted .simple .symmetric
+  symmetric = accepted .graph .simple .symmetric
 
   pub work-fits : MembersFit n w₀
-  work-fits = record { small = accepted .fits .small; parts = let r = accepted .enough in omega arith }
+  work-fits = record { small = accepted .graph .fits .small; parts = let r = accepted .enough in omega arith }
 
   -- after the members were written
   module _ {w₁ : List ℕ} {k : ℕ} (wrote : MembersIn n (passing n (is 1 bs)) w₀ w₁ k) where
@@ -130,7 +130,7 @@ module _ {n : ℕ} {t d bs w₀ : List ℕ} {s : Settings} (ready : QueryReady n
       clique = cliques (counted .some) .0 (counted .joined)
 
       tally : TallyOf graph members y
-      tally = counted .tallies graph refl (accepted .degrees) members has-members
+      tally = counted .tallies graph refl (accepted .graph .degrees) members has-members
 
       -- what the isolation test requires
       pub small-numbers : Small s (y .members)
@@ -140,7 +140,7 @@ module _ {n : ℕ} {t d bs w₀ : List ℕ} {s : Settings} (ready : QueryReady n
             members =
                 let a = tally .members in
                 let b = both-fit graph members in
-                let d = accepted .fits .small in
+                let d = accepted .graph .fits .small in
                 omega arith;
           }
 
@@ -170,7 +170,7 @@ module _ {n : ℕ} {t d bs w₀ : List ℕ} {s : Settings} (ready : QueryReady n
         pub beaten-asks : SearchFits n t d w₂ × Posed n t w₂ s y m
         beaten-asks =
             let l = long in (
-              record { table = accepted .fits; degrees-fit = accepted .degrees-fit; degrees = accepted .degrees; parts = omega arith },
+              record { table = accepted .graph .fits; degrees-fit = accepted .graph .degrees-fit; degrees = accepted .graph .degrees; parts = omega arith },
               record {
                 set = members;
                 factor = accepted .factor;

@@ -26,7 +26,7 @@ position-refusal-requires c κs =
     let e = r .before .before in
     let h = passed e in
     let q = e .before .before .before .before .before .before .before .pre in
-    (ranked h (q .0) (r .fill-order .ensures), h .factor, h .long, omega (arith, h .fits .small, q .1))
+    (ranked h (q .0) (r .fill-order .ensures), h .factor, h .long, omega (arith, h .graph .fits .small, q .1))
 
 returns-2 : tie.Need-returns-2
 returns-2 c =

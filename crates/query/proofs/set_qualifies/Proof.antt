@@ -23,7 +23,7 @@ pairwise-joined-requires : tie.Need-pairwise-joined-requires
 pairwise-joined-requires c κs =
     let wrote = c .before .before .before .before in
     let ready = wrote .before .before .before .before .before .before .pre in
-    (accepted ready .fits, holds-members ready (wrote .members-of .ensures))
+    (accepted ready .graph .fits, holds-members ready (wrote .members-of .ensures))
 
 same-length-2 : tie.Need-same-length-2
 same-length-2 c = c .before .before .before .before .before .before .members-of .ensures .length-kept
@@ -38,7 +38,7 @@ tally-of-requires : tie.Need-tally-of-requires
 tally-of-requires c κs =
     let wrote = c .before .before .before .before .before .before .before in
     let ready = wrote .before .before .before .before .before .before .pre in
-    (accepted ready .degrees-fit, holds-members ready (wrote .members-of .ensures))
+    (accepted ready .graph .degrees-fit, holds-members ready (wrote .members-of .ensures))
 
 -- where the numbers are known there are members, pairwise joined
 counted : (c : tie.After-tally-of) → Counted (c .before .before .before .before .before .before .before .before .before .before .before .before .before .before .pre) (c .before .before .before .before .before .before .before .before .members-of .ensures) (c .tally-of .result)
@@ -63,7 +63,7 @@ common-neighbours-requires : tie.Need-common-neighbours-requires
 common-neighbours-requires c κs =
     let wrote = c .before .before .before .before .before .before .before .before .before .before .before in
     let ready = wrote .before .before .before .before .before .before .pre in
-    (accepted ready .fits, holds-members ready (wrote .members-of .ensures))
+    (accepted ready .graph .fits, holds-members ready (wrote .members-of .ensures))
 
 beaten-requires : tie.Need-beaten-requires
 beaten-requires c κs =
