@@ -83,25 +83,6 @@ pub record Edited (b : Bool) (n u v : ℕ) (t d : List ℕ) (r : EditReply) : Ty
   pub unchanged-iff : (r .unchanged ≡ true) ↔ (byTable n (r .table) ≡ byTable n t)
   pub unchanged-all : r .unchanged ≡ true → (r .table ≡ t) × (r .degrees ≡ d)
 
--- ---- a list of edits
-
--- what an edit is given beside table and list
-pub record Edit : Type 0 where
-  pub joins : Bool
-  pub from : ℕ
-  pub to : ℕ
-
--- table and list as a list of edits leaves them, one after the other
-pub record Held : Type 0 where
-  pub table : List ℕ
-  pub degrees : List ℕ
-
-unfoldable pub edits : ℕ → List Edit → Held → Held
-edits n [] h = h
-edits n (e ∷ es) h =
-    let r = editCall (e .joins) n (h .table) (h .degrees) (e .from) (e .to) in
-    edits n es (record { table = r .table; degrees = r .degrees })
-
 -- ---- the list of degrees
 
 -- the refusal number of the call that lists the degrees: what holds the graph is tested first, and then 42 is a list not n long

@@ -279,6 +279,11 @@ beq-false true false e = refl
 beq-false false true e = refl
 beq-false false false e = absurd (true≢false e)
 
+-- the number of an outcome is 1 exactly where it is true
+pub bit-one : (b : Bool) → eqb (bit b) 1 ≡ b
+bit-one true = refl
+bit-one false = refl
+
 -- tests over the numbers below n go by what stands there
 pub any-same : (n : ℕ) (p q : ℕ → Bool) → ((i : ℕ) → i < n → p i ≡ q i) → any n p ≡ any n q
 any-same n p q e =

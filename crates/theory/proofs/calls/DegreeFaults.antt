@@ -1,21 +1,22 @@
 -- A graph that is lent with a list of its degrees: refusal 42 comes right after those of what holds the graph, and passes exactly the graph's own list.
 -- Assumes nothing.
 use Prim.Native.Nat.{ℕ, _<_}
-use mathlib.Core.Path.{_≡_, ap, _∙_}
+use mathlib.Core.Path.{_≡_, sym, ap, _∙_}
 use mathlib.Core.Bool.{not}
 use mathlib.Core.Logic.{_↔_, _≢_, _⊎_, inl, inr}
 use mathlib.Core.List.{List, _++_}
 use native.Mathlib.Omega.{arith}
 use lib.ListN.{length, getD}
 use lib.Dec.{eqb}
-use Rattle.model.specs.Graph.{Graph, LentGraph, degree, degreeList}
-use Rattle.model.specs.Calls.{refuseDegrees, withDegrees}
+use Rattle.model.specs.Graph.{Graph, LentGraph, byTable, degree, degreeList}
+use Rattle.model.specs.Calls.{byteTable, refuseDegrees, withDegrees}
 use Rattle.model.specs.Fault.{Fault, FirstFault, NoFault}
 use Rattle.model.specs.Faults.{degreesFaults, Lends}
 use Rattle.theory.proofs.basics.Tests.{test-not, test-or, test-eq, test-any, not-different}
 use Rattle.theory.proofs.basics.Refusals.{else-none, else-passed}
 use Rattle.theory.proofs.graph.DegreeList.{degree-list-length, degree-list-at, degree-list-only}
 use Rattle.theory.proofs.calls.Fault.{refuse-first, none-found, first-none, first-else, numbers-both}
+use Rattle.theory.proofs.calls.TableFaults.{table-once}
 
 module _ (G : Graph) (d : List ℕ) where
   -- the number of a list is that of its fault
@@ -62,3 +63,11 @@ with-degrees-iff L d = (
   λ e. let a = else-passed (L .fault) _ e in (a .0, degrees-accepted (L .graph) d .0 (a .1)),
   λ h. else-none (h .0) _ ∙ degrees-accepted (L .graph) d .1 (h .1),
 )
+
+-- A graph has one table and one list that pass 1 to 5 and 42.
+pub lent-once : (n : ℕ) (t d s e : List ℕ) → withDegrees (byteTable n t) d .fault ≡ 0 → withDegrees (byteTable n s) e .fault ≡ 0 → byTable n t ≡ byTable n s
+    → (t ≡ s) × (d ≡ e)
+lent-once n t d s e p q same =
+    let a = with-degrees-iff (byteTable n t) d .0 p in
+    let b = with-degrees-iff (byteTable n s) e .0 q in
+    (table-once n t s (a .0) (b .0) same, a .1 ∙ ap degreeList same ∙ sym (b .1))

@@ -1,8 +1,8 @@
--- The calls that join or part a pair: the number that they are refused with, what an accepted edit leaves, that edits can follow one another, and that
--- an edit can be undone.
+-- The calls that join or part a pair: the number that they are refused with, what an accepted edit leaves, that edits can follow one another, that an
+-- edit can be undone, and that the pair has no direction.
 -- Assumes nothing.
 use Prim.Native.Nat.{ℕ, zero, suc, _+_, _*_, _≤_, _<_}
-use mathlib.Core.Path.{_≡_, refl, sym, ap, ap₂, _∙_, subst, subst⁻¹}
+use mathlib.Core.Path.{_≡_, refl, sym, ap, ap₂, _∙_, subst⁻¹}
 use mathlib.Core.Bool.{Bool, true, false, _&&_, not, Bool·beq, Bool·not-not, true≢false, false≢true}
 use mathlib.Core.Logic.{_↔_, _≢_, _⊎_, inl, inr, ⊎-elim}
 use mathlib.Core.List.{List, [], _∷_, _++_}
@@ -12,16 +12,16 @@ use lib.Dec.{ltb, eqb}
 use borrow.Author.Tests.{eqb-true, eqb-false, ne-eqb, not-false}
 use Rattle.model.specs.Below.{bit}
 use Rattle.model.specs.Graph.{Graph, LentGraph, byTable, withPair, degreeList}
-use Rattle.model.specs.Calls.{refuseTable, byteTable, withDegrees}
+use Rattle.model.specs.Calls.{refuse, orElse, refuseTable, byteTable, withDegrees}
 use Rattle.model.specs.Fault.{Fault, FirstFault, NoFault}
 use Rattle.model.specs.Faults.{numbersOf, tableFaults, degreesFaults, Lends}
-use Rattle.model.specs.Edits.{refusePair, refuseEdit, recount, EditReply, editReply, editTo, editCall, editFaults, Edited, Edit, Held, edits}
-use Rattle.theory.proofs.basics.Tests.{Test, test-map, test-and, test-not, test-lt, test-eq, lt-or-ge, in-length, not-different, passes-or-fails, beq-true, beq-false}
+use Rattle.model.specs.Edits.{refusePair, refuseEdit, recount, EditReply, editReply, editTo, editCall, editFaults, Edited}
+use Rattle.theory.proofs.basics.Tests.{Test, test-map, test-agree, test-and, test-not, test-lt, test-eq, lt-or-ge, in-length, not-different, passes-or-fails, beq-true, beq-false}
 use Rattle.theory.proofs.basics.Refusals.{refuse-pass, refuse-on, else-none, else-passed}
 use Rattle.theory.proofs.graph.Table.{joined-at}
-use Rattle.theory.proofs.graph.Pairs.{PairIn, pair-in, pair-length, pair-others, pair-mirror, pair-diagonal, pair-either, pair-graph, pair-restored, recount-length, recount-other, degrees-follow}
+use Rattle.theory.proofs.graph.Pairs.{PairIn, pair-in, pair-length, pair-others, pair-mirror, pair-diagonal, pair-either, pair-graph, pair-restored, pair-turned, recount-length, recount-other, recount-turned, degrees-follow}
 use Rattle.theory.proofs.calls.Fault.{refuse-first, none-found, first-none, first-once, first-else, numbers-both, none-of}
-use Rattle.theory.proofs.calls.TableFaults.{table-accepted-iff, table-simple}
+use Rattle.theory.proofs.calls.TableFaults.{table-accepted-iff, table-whole, table-simple}
 use Rattle.theory.proofs.calls.DegreeFaults.{with-degrees-iff}
 
 -- ---- an edit's reply by its refusal number, whatever form its graph is lent in
@@ -154,12 +154,11 @@ module _ (n : ℕ) (t d : List ℕ) (u v : ℕ) where
       there e =
           let p = edit-passes-iff (withDegrees (byteTable n t) d) u v .0 e in
           let l = with-degrees-iff (byteTable n t) d .0 (p .no-fault) in
-          let none = table-accepted-iff n t .0 (l .0) in
           record {
             table-passes = l .0;
             own = l .1;
             pair =
-                record { from-below = p .from-below; to-below = p .to-below; differ = p .differ; whole = not-different (length t) (n * n) (none .1 .0) };
+                record { from-below = p .from-below; to-below = p .to-below; differ = p .differ; whole = table-whole n t (l .0) };
           }
 
       back : Accepted n t d u v → refuseEdit (withDegrees (byteTable n t) d) u v ≡ 0
@@ -313,28 +312,32 @@ module _ (b : Bool) (n : ℕ) (t d : List ℕ) (u v : ℕ) where
               written-own n t₁ d₁ u v again (not b) (pair-graph (a .pair) b .there ∙ sym (Bool·not-not b))
               ∙ ap (λ (x : List ℕ). degreeList (byTable n x)) table ∙ sym (a .own)
 
--- ---- a list of edits
+-- ---- the pair has no direction
 
--- each of them leaves a table and a list that pass 1 to 5 and 42, a refused one since it leaves all as it was
-pub edits-chain : (n : ℕ) (es : List Edit) (h : Held) → withDegrees (byteTable n (h .table)) (h .degrees) .fault ≡ 0
-    → (let k = edits n es h in withDegrees (byteTable n (k .table)) (k .degrees) .fault ≡ 0)
-unfolding edits
-edits-chain n [] h e = e
-edits-chain n (x ∷ es) h e = edits-chain n es _ (one (refuseEdit L (x .from) (x .to)) refl)
+-- with its ends in either order it is refused with one number,
+refuse-turned : (L : LentGraph) (u v : ℕ) → refuseEdit L u v ≡ refuseEdit L v u
+unfolding refuseEdit refusePair
+refuse-turned L u v =
+    ap₂ (λ (x y : Bool). orElse (L .fault) (refuse 43 (not x) (refuse 44 y 0)))
+    (test-agree (test-and (test-lt u n) (test-lt v n)) (test-and (test-lt v n) (test-lt u n)) (λ r. (r .1, r .0)) (λ r. (r .1, r .0)))
+    (test-agree (test-eq u v) (test-eq v u) sym sym)
+  where
+    n : ℕ
+    n = L .graph .size
+
+-- and an edit is the same in both directions, a refused one too
+pub edit-turned : (b : Bool) (n : ℕ) (t d : List ℕ) (u v : ℕ) → editCall b n t d u v ≡ editCall b n t d v u
+edit-turned b n t d u v = go (refuseEdit L u v) refl
   where
     L : LentGraph
-    L = withDegrees (byteTable n (h .table)) (h .degrees)
+    L = withDegrees (byteTable n t) d
 
-    t₁ : List ℕ
-    t₁ = withPair (bit (x .joins)) n (x .from) (x .to) (h .table)
+    back : {k : ℕ} → refuseEdit L u v ≡ k → refuseEdit L v u ≡ k
+    back q = sym (refuse-turned L u v) ∙ q
 
-    r : EditReply
-    r = editCall (x .joins) n (h .table) (h .degrees) (x .from) (x .to)
-
-    one : (k : ℕ) → refuseEdit L (x .from) (x .to) ≡ k → withDegrees (byteTable n (r .table)) (r .degrees) .fault ≡ 0
-    one zero q =
-        edit-chains (x .joins) n (h .table) (h .degrees) (x .from) (x .to)
-        (edit-number L (x .from) (x .to) (x .joins) (h .table) (h .degrees) t₁ ∙ q)
-    one (suc k) q =
-        subst⁻¹ (λ (y : EditReply). withDegrees (byteTable n (y .table)) (y .degrees) .fault ≡ 0)
-        (edit-left L (x .from) (x .to) (x .joins) (h .table) (h .degrees) t₁ (λ z. omega arith) q) e
+    go : (k : ℕ) → refuseEdit L u v ≡ k → editCall b n t d u v ≡ editCall b n t d v u
+    go zero q =
+        by-number L u v b t d _ q refl
+        ∙ ap₂ (λ (x y : List ℕ). editReply 0 (Bool·beq (byTable n t .joined u v) b) t d x y) (pair-turned (bit b) n u v t) (recount-turned b u v d)
+        ∙ sym (by-number L v u b t d _ (back q) (ap (λ (x : Bool). Bool·beq x b) (both-ways n t d u v (accepted-iff n t d u v .0 q))))
+    go (suc k) q = edit-left L u v b t d _ (λ z. omega arith) q ∙ sym (edit-left L v u b t d _ (λ z. omega arith) (back q))

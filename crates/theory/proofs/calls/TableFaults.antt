@@ -1,5 +1,5 @@
 -- A table of bytes as a form in which a graph is lent: refusals 1 to 5 answer with the first of its faults, and without a fault its graph is one of
--- document 01's.
+-- document 01's and has no other table without a fault.
 -- Assumes nothing.
 use Prim.Native.Nat.{ℕ, zero, suc, _+_, _*_, _≤_, _<_}
 use mathlib.Core.Path.{_≡_, refl, sym, ap, _∙_}
@@ -9,14 +9,14 @@ use mathlib.Core.List.{List}
 use native.Mathlib.Omega.{arith}
 use lib.ListN.{length, getD}
 use lib.Dec.{eqb}
-use Rattle.model.specs.Graph.{byTable, amongVertices, byteJoined}
+use Rattle.model.specs.Graph.{Graph, byTable, amongVertices, byteJoined}
 use Rattle.model.specs.Meaning.{Simple}
 use Rattle.model.specs.Calls.{over, looped, oneWay, refuseTable, byteTable}
 use Rattle.model.specs.Fault.{FirstFault, NoFault}
 use Rattle.model.specs.Faults.{tableFaults, Lends}
 use Rattle.theory.proofs.basics.Tests.{Test, test-map, test-not, test-lt, test-eq, test-any, in-length, not-different, fails}
 use Rattle.theory.proofs.calls.Fault.{refuse-first, none-found, over-test, first-none}
-use Rattle.theory.proofs.graph.Table.{joined-at, joined-test}
+use Rattle.theory.proofs.graph.Table.{one-table, joined-at, joined-test}
 
 -- no byte is over m
 none-over : (m : ℕ) (bs : List ℕ) → ((i : ℕ) × (i < length bs) × (m < getD bs i 0) → ⊥) → (i : ℕ) → getD bs i 0 ≤ m
@@ -71,6 +71,10 @@ module _ (n : ℕ) (t : List ℕ) where
         bytes-same u v hu hv e =
             same-bit _ _ (bits (u * n + v)) (bits (v * n + u)) (sym (joined-at n t u hu v hv) ∙ e ∙ joined-at n t v hv u hu)
 
+-- without a byte other than 0 and 1, each is at most 1
+bytes-small : (t : List ℕ) → ((i : ℕ) × (i < length t) × (getD t i 0 ≢ 0) × (getD t i 0 ≢ 1) → ⊥) → (i : ℕ) → getD t i 0 ≤ 1
+bytes-small t f = none-over 1 t (λ r. let h = r .2 in f (r .0, r .1, λ z. omega arith, λ z. omega arith))
+
 -- the number of a table is that of its first fault
 table-first : (n : ℕ) (t : List ℕ) → FirstFault (tableFaults n t) (refuseTable n t)
 unfolding refuseTable
@@ -79,14 +83,25 @@ table-first n t =
     refuse-first 2 _ _ _ (test-not (test-eq (length t) (n * n))) (λ h2.
     refuse-first 3 _ _ _ (table-byte-test n t) (λ h3.
     refuse-first 4 _ _ _ (diagonal-test n t) (λ h4.
-    refuse-first 5 _ _ _ (mirror-test n t (bits h3)) (λ h5. none-found)))))
-  where
-    bits : ((i : ℕ) × (i < length t) × (getD t i 0 ≢ 0) × (getD t i 0 ≢ 1) → ⊥) → (i : ℕ) → getD t i 0 ≤ 1
-    bits f = none-over 1 t (λ r. let h = r .2 in f (r .0, r .1, λ z. omega arith, λ z. omega arith))
+    refuse-first 5 _ _ _ (mirror-test n t (bytes-small t h3)) (λ h5. none-found)))))
 
 -- a table passes exactly where no fault of its holds
 pub table-accepted-iff : (n : ℕ) (t : List ℕ) → (refuseTable n t ≡ 0) ↔ NoFault (tableFaults n t)
 table-accepted-iff n t = first-none (tableFaults n t) (refuseTable n t) (omega arith) (table-first n t)
+
+-- a table without a fault has n × n bytes
+pub table-whole : (n : ℕ) (t : List ℕ) → refuseTable n t ≡ 0 → length t ≡ n * n
+table-whole n t e = not-different (length t) (n * n) (table-accepted-iff n t .0 e .1 .0)
+
+-- a graph has one table without a fault
+pub table-once : (n : ℕ) (t s : List ℕ) → refuseTable n t ≡ 0 → refuseTable n s ≡ 0 → byTable n t ≡ byTable n s → t ≡ s
+table-once n t s p q e =
+    one-table n t s (table-whole n t p) (table-whole n s q) (λ u v hu hv.
+    same-bit _ _ (small t p (u * n + v)) (small s q (u * n + v))
+    (sym (joined-at n t u hu v hv) ∙ ap (λ (G : Graph). G .joined u v) e ∙ joined-at n s u hu v hv))
+  where
+    small : (r : List ℕ) → refuseTable n r ≡ 0 → (i : ℕ) → getD r i 0 ≤ 1
+    small r h = bytes-small r (table-accepted-iff n r .0 h .1 .1 .0)
 
 -- a table without a fault holds a graph of document 01
 pub table-simple : (n : ℕ) (t : List ℕ) → refuseTable n t ≡ 0 → Simple (byTable n t)

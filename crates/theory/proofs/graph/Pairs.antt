@@ -1,10 +1,10 @@
 -- A pair of vertices that is joined or parted: the table with both its bytes written, the graph that is another but for the pair, and its degrees.
 -- Assumes nothing.
-use Prim.Native.Nat.{ℕ, _+_, _*_, _<_}
+use Prim.Native.Nat.{ℕ, zero, suc, _+_, _*_, _<_}
 use mathlib.Core.Path.{_≡_, refl, sym, ap, _∙_, subst}
 use mathlib.Core.Bool.{Bool, true, false, not}
 use mathlib.Core.Logic.{_≢_, _⊎_, inl, inr}
-use mathlib.Core.List.{List}
+use mathlib.Core.List.{List, [], _∷_}
 use native.Mathlib.Omega.{arith}
 use lib.ListN.{length, getD, set, length-set}
 use lib.Seq.{getD-set-same, getD-set-other, ext-getD}
@@ -12,7 +12,7 @@ use lib.Dec.{eqb}
 use Rattle.model.specs.Below.{bit, count}
 use Rattle.model.specs.Graph.{Graph, byTable, withPair, degree, degreeList}
 use Rattle.model.specs.Edits.{moved, recount, ButFor}
-use Rattle.theory.proofs.basics.Tests.{test-agree, count-same, one-of-two}
+use Rattle.theory.proofs.basics.Tests.{test-agree, count-same, one-of-two, bit-one}
 use Rattle.theory.proofs.basics.Counting.{count-but}
 use Rattle.theory.proofs.graph.Table.{joined-at, joined-test, cell-one, cell-turned, cell-within}
 use Rattle.theory.proofs.graph.DegreeList.{degree-list-length, degree-list-at, degree-list-only}
@@ -29,6 +29,19 @@ module _ (x n u v : ℕ) (t : List ℕ) where
   pub pair-others : (i : ℕ) → i ≢ u * n + v → i ≢ v * n + u → getD (withPair x n u v t) i 0 ≡ getD t i 0
   unfolding withPair
   pair-others i d e = getD-set-other (set t (u * n + v) x) (v * n + u) i x 0 e ∙ getD-set-other t (u * n + v) i x 0 d
+
+  -- and the pair has no direction
+  pub pair-turned : withPair x n u v t ≡ withPair x n v u t
+  unfolding withPair
+  pair-turned = twice t (u * n + v) (v * n + u)
+    where
+      -- two entries that become x can do so in either order
+      twice : (l : List ℕ) (i j : ℕ) → set (set l i x) j x ≡ set (set l j x) i x
+      twice [] i j = refl
+      twice (y ∷ l) zero zero = refl
+      twice (y ∷ l) zero (suc j) = refl
+      twice (y ∷ l) (suc i) zero = refl
+      twice (y ∷ l) (suc i) (suc j) = ap (λ (r : List ℕ). y ∷ r) (twice l i j)
 
 -- u and v are two different vertices, and t is n × n bytes
 pub record PairIn (n u v : ℕ) (t : List ℕ) : Type 0 where
@@ -95,8 +108,8 @@ module _ {n u v : ℕ} {t : List ℕ} (p : PairIn n u v t) where
   pair-graph b =
       record {
         same-size = refl;
-        there = joined-at n s u (p .from-below) v (p .to-below) ∙ ap (λ (k : ℕ). eqb k 1) (pair-there (bit b)) ∙ is-bit b;
-        and-back = joined-at n s v (p .to-below) u (p .from-below) ∙ ap (λ (k : ℕ). eqb k 1) (pair-back (bit b)) ∙ is-bit b;
+        there = joined-at n s u (p .from-below) v (p .to-below) ∙ ap (λ (k : ℕ). eqb k 1) (pair-there (bit b)) ∙ bit-one b;
+        and-back = joined-at n s v (p .to-below) u (p .from-below) ∙ ap (λ (k : ℕ). eqb k 1) (pair-back (bit b)) ∙ bit-one b;
         elsewhere = λ x y d e.
             test-agree (joined-test n s x y) (joined-test n t x y)
             (λ r. (r .0, sym (kept x y (r .0 .1) d e) ∙ r .1))
@@ -105,10 +118,6 @@ module _ {n u v : ℕ} {t : List ℕ} (p : PairIn n u v t) where
     where
       s : List ℕ
       s = withPair (bit b) n u v t
-
-      is-bit : (b : Bool) → eqb (bit b) 1 ≡ b
-      is-bit true = refl
-      is-bit false = refl
 
       kept : (x y : ℕ) → y < n → ((x ≡ u) × (y ≡ v) → ⊥) → ((x ≡ v) × (y ≡ u) → ⊥) → getD s (x * n + y) 0 ≡ getD t (x * n + y) 0
       kept x y hy d e = pair-others (bit b) n u v t (x * n + y) (λ q. d (cell-one n x y u v hy (p .to-below) q)) (λ q. e (cell-one n x y v u hy (p .from-below) q))
@@ -177,7 +186,16 @@ module _ (b : Bool) (u : ℕ) (d : List ℕ) where
   unfolding recount
   recount-other w e = getD-set-other d u w (moved b (getD d u 0)) 0 e
 
--- it is the list of the new graph's degrees
+-- the two can follow in either order
+pub recount-turned : (b : Bool) (u v : ℕ) (d : List ℕ) → recount b u (recount b v d) ≡ recount b v (recount b u d)
+unfolding recount
+recount-turned b u v [] = refl
+recount-turned b zero zero (x ∷ d) = refl
+recount-turned b zero (suc v) (x ∷ d) = refl
+recount-turned b (suc u) zero (x ∷ d) = refl
+recount-turned b (suc u) (suc v) (x ∷ d) = ap (λ (l : List ℕ). x ∷ l) (recount-turned b u v d)
+
+-- the list in which both have followed is that of the new graph's degrees
 pub degrees-follow : {b : Bool} {u v : ℕ} {G H : Graph} → ButFor b u v G H → u < G .size → v < G .size → u ≢ v → G .joined u v ≡ not b → G .joined v u ≡ not b
     → recount b u (recount b v (degreeList G)) ≡ degreeList H
 degrees-follow {b} {u} {v} {G} {H} edit hu hv differ there back =

@@ -1,14 +1,14 @@
 -- The byte table as a graph. Assumes nothing.
-use Prim.Native.Nat.{ℕ, _+_, _-_, _*_, _≤_, _<_}
-use mathlib.Core.Path.{_≡_, sym, ap, ap₂, _∙_}
+use Prim.Native.Nat.{ℕ, zero, suc, _+_, _-_, _*_, _≤_, _<_}
+use mathlib.Core.Path.{_≡_, refl, sym, ap, ap₂, _∙_, subst}
 use mathlib.Core.Bool.{Bool, true, false, _&&_}
 use mathlib.Core.List.{List}
-use native.Mathlib.Nat.{suc-mul, mul-le-mul-right, le-trans}
+use native.Mathlib.Nat.{zero-mul, suc-mul, not-suc-le-zero, mul-le-mul-right, le-trans}
 use native.Mathlib.Omega.{arith}
 use lib.ListN.{length, getD, take, drop, length-take, length-drop}
-use lib.Seq.{getD-take, getD-drop}
+use lib.Seq.{getD-take, getD-drop, ext-getD}
 use lib.Dec.{ltb, eqb}
-use borrow.Author.Tests.{lt-ltb, ltb-true}
+use borrow.Author.Tests.{lt-ltb, ltb-true, ltb-false}
 use mathlib.Core.Logic.{_⊎_, inl, inr}
 use Rattle.model.specs.Below.{count}
 use Rattle.model.specs.Graph.{onVertices, byTable, degree, amongVertices, byteJoined}
@@ -47,6 +47,39 @@ cell-turned n a b u v hb hv e = let q = cell-one n a b u v hb hv e in ap₂ (λ 
 -- the byte of two vertices stands within the table
 pub cell-within : (n u v : ℕ) → u < n → v < n → u * n + v < n * n
 cell-within n u v hu hv = omega (arith, row-end n u hu)
+
+-- a byte of m rows of n stands for a pair, which is its row and its column
+record Cell (m n i : ℕ) : Type 0 where
+  row : ℕ
+  column : ℕ
+  row-below : row < m
+  column-below : column < n
+  index : i ≡ row * n + column
+
+-- each byte has one,
+cell-of : (m n i : ℕ) → i < m * n → Cell m n i
+cell-of zero n i h = absurd (not-suc-le-zero (subst (λ (x : ℕ). i < x) (zero-mul n) h))
+cell-of (suc m) n i h = go (ltb i (m * n)) refl (cell-of m n i)
+  where
+    go : (t : Bool) → ltb i (m * n) ≡ t → (i < m * n → Cell m n i) → Cell (suc m) n i
+    go true e f =
+        let c = f (ltb-true i (m * n) e) in
+        record { row = c .row; column = c .column; row-below = omega arith; column-below = c .column-below; index = c .index }
+    go false e f =
+        let l = ltb-false i (m * n) e in
+        record { row = m; column = i - m * n; row-below = omega arith; column-below = omega (arith, suc-mul m n); index = omega arith }
+
+-- so what holds of the byte of each pair holds of each byte of a table,
+pub each-cell : (n : ℕ) (P : ℕ → Type 0) → ((u v : ℕ) → u < n → v < n → P (u * n + v)) → (i : ℕ) → i < n * n → P i
+each-cell n P f i h =
+    let c = cell-of n n i h in
+    subst P (sym (c .index)) (f (c .row) (c .column) (c .row-below) (c .column-below))
+
+-- and two tables with the same bytes for each pair are one
+pub one-table : (n : ℕ) (t s : List ℕ) → length t ≡ n * n → length s ≡ n * n
+    → ((u v : ℕ) → u < n → v < n → getD t (u * n + v) 0 ≡ getD s (u * n + v) 0) → t ≡ s
+one-table n t s p q f =
+    ext-getD 0 t s (p ∙ sym q) (λ i h. each-cell n (λ k. getD t k 0 ≡ getD s k 0) f i (subst (λ (k : ℕ). i < k) p h))
 
 -- whether two are joined, for any u and v: they are vertices, and the byte of their pair is 1
 pub joined-test : (n : ℕ) (t : List ℕ) (u v : ℕ) → Test (byTable n t .joined u v) (((u < n) × (v < n)) × (getD t (u * n + v) 0 ≡ 1))

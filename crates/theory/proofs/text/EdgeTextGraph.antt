@@ -17,11 +17,11 @@ use Rattle.model.specs.Faults.{tableFaults}
 use Rattle.model.specs.Text.{TextReply, readText}
 use Rattle.model.specs.EdgeText.{Line, edge, HasPair, Ends, Table, EdgeText}
 use Rattle.theory.proofs.basics.Tests.{Test, test-and, test-lt, test-self}
-use Rattle.theory.proofs.graph.Table.{joined-at}
+use Rattle.theory.proofs.graph.Table.{each-cell, joined-at}
 use Rattle.theory.proofs.calls.Fault.{none-of}
 use Rattle.theory.proofs.calls.TableFaults.{table-accepted-iff}
 use Rattle.theory.proofs.text.EdgeTextFaults.{pair-ends}
-use Rattle.theory.proofs.text.EdgeTextTable.{Cell, cell-of, joins-or-not, joins-swap, byte-test}
+use Rattle.theory.proofs.text.EdgeTextTable.{joins-or-not, joins-swap, byte-test}
 use Rattle.theory.proofs.text.EdgeText.{accepted-reply, accepted-iff}
 
 module _ (n : ℕ) (xs : List Line) (t : List ℕ) (a : Table n xs t) (ends : (u v : ℕ) → List·Memᴰ (edge u v) xs → Ends n u v) where
@@ -42,16 +42,13 @@ module _ (n : ℕ) (xs : List Line) (t : List ℕ) (a : Table n xs t) (ends : (u
 
   -- a byte is 0 or 1, that of a vertex with itself is 0, and the bytes of a pair are equal
   byte-small : (i : ℕ) → i < length t → (getD t i 0 ≡ 0) ⊎ (getD t i 0 ≡ 1)
-  byte-small i h = at (cell-of n n i (subst (λ (k : ℕ). i < k) (a .size) h))
+  byte-small i h =
+      each-cell n (λ k. (getD t k 0 ≡ 0) ⊎ (getD t k 0 ≡ 1)) (λ u v hu hv. go u v hu hv (joins-or-not xs (suc u) (suc v))) i
+      (subst (λ (k : ℕ). i < k) (a .size) h)
     where
       go : (u v : ℕ) → u < n → v < n → HasPair xs (suc u) (suc v) ⊎ (HasPair xs (suc u) (suc v) → ⊥) → (getD t (u * n + v) 0 ≡ 0) ⊎ (getD t (u * n + v) 0 ≡ 1)
       go u v hu hv (inl j) = inr (a .joined u v hu hv j)
       go u v hu hv (inr f) = inl (a .apart u v hu hv f)
-
-      at : Cell n n i → (getD t i 0 ≡ 0) ⊎ (getD t i 0 ≡ 1)
-      at c =
-          subst (λ (k : ℕ). (getD t k 0 ≡ 0) ⊎ (getD t k 0 ≡ 1)) (sym (c .index))
-          (go (c .row) (c .column) (c .row-below) (c .column-below) (joins-or-not xs (suc (c .row)) (suc (c .column))))
 
   no-loop : (u : ℕ) → u < n → getD t (u * n + u) 0 ≡ 1 → ⊥
   no-loop u h e = pair-ends n xs ends (suc u) (suc u) (byte-test n xs t a u u h h .0 (eq-eqb (getD t (u * n + u) 0) 1 e)) .differ refl

@@ -1,45 +1,22 @@
 -- The table of a text: there is one for given lines, and an e line extends it by its pair.
 -- Assumes nothing.
-use Prim.Native.Nat.{ℕ, zero, suc, _+_, _-_, _*_, _<_}
+use Prim.Native.Nat.{ℕ, suc, _+_, _*_, _<_}
 use mathlib.Core.Path.{_≡_, refl, sym, ap, ap₂, _∙_, subst, subst₂}
 use mathlib.Core.Logic.{_⊎_, inl, inr, ⊎-elim}
 use mathlib.Core.Bool.{Bool, true, false}
 use mathlib.Core.List.{List, [], _∷_, _++_, List·Memᴰ, List·Memᴰ·head, List·Memᴰ·tail, List·Memᴰ·not-nil, List·Memᴰ·cases-cons, List·Memᴰ·append-cases, List·Memᴰ·eq-of-singleton, Memᴰ·append-left, Memᴰ·append-right}
-use native.Mathlib.Nat.{zero-mul, suc-mul, not-suc-le-zero, suc-inj}
+use native.Mathlib.Nat.{suc-inj}
 use native.Mathlib.Omega.{arith}
 use lib.ListN.{length, getD, set, replicate, length-set, length-replicate, getD-replicate}
-use lib.Seq.{getD-set-same, getD-set-other, ext-getD}
-use lib.Dec.{ltb, eqb}
-use borrow.Author.Tests.{ltb-true, ltb-false, eqb-true, eqb-false, eq-eqb}
+use lib.Seq.{getD-set-same, getD-set-other}
+use lib.Dec.{eqb}
+use borrow.Author.Tests.{eqb-true, eqb-false, eq-eqb}
 use Rattle.model.specs.Graph.{withPair}
 use Rattle.model.specs.EdgeText.{Line, comment, problem, edge, HasPair, Table}
 use Rattle.theory.proofs.basics.Tests.{Test}
-use Rattle.theory.proofs.graph.Table.{cell-one, cell-within}
+use Rattle.theory.proofs.graph.Table.{cell-one, cell-within, one-table}
 use Rattle.theory.proofs.graph.Pairs.{pair-length, pair-others}
 use Rattle.theory.proofs.text.EdgeTextDrawn.{comment-not-edge, edge-not-problem, edge-first, edge-second}
-
--- ---- the bytes of a table
-
--- each byte stands for a pair
-pub record Cell (m n i : ℕ) : Type 0 where
-  pub row : ℕ
-  pub column : ℕ
-  pub row-below : row < m
-  pub column-below : column < n
-  pub index : i ≡ row * n + column
-
--- each byte of m rows of n has one
-pub cell-of : (m n i : ℕ) → i < m * n → Cell m n i
-cell-of zero n i h = absurd (not-suc-le-zero (subst (λ (x : ℕ). i < x) (zero-mul n) h))
-cell-of (suc m) n i h = go (ltb i (m * n)) refl (cell-of m n i)
-  where
-    go : (t : Bool) → ltb i (m * n) ≡ t → (i < m * n → Cell m n i) → Cell (suc m) n i
-    go true e f =
-        let c = f (ltb-true i (m * n) e) in
-        record { row = c .row; column = c .column; row-below = omega arith; column-below = c .column-below; index = c .index }
-    go false e f =
-        let l = ltb-false i (m * n) e in
-        record { row = m; column = i - m * n; row-below = omega arith; column-below = omega (arith, suc-mul m n); index = omega arith }
 
 -- ---- which pairs the lines join
 
@@ -185,16 +162,11 @@ module _ (n : ℕ) where
 
     -- the lines have one table
     pub table-one : (s : List ℕ) → Table n xs s → t ≡ s
-    table-one s b = ext-getD 0 t s (a .size ∙ sym (b .size)) (λ i h. at i (cell-of n n i (subst (λ (k : ℕ). i < k) (a .size) h)))
+    table-one s b = one-table n t s (a .size) (b .size) (λ u v hu hv. go u v hu hv (joins-or-not xs (suc u) (suc v)))
       where
         go : (u v : ℕ) → u < n → v < n → HasPair xs (suc u) (suc v) ⊎ (HasPair xs (suc u) (suc v) → ⊥) → getD t (u * n + v) 0 ≡ getD s (u * n + v) 0
         go u v hu hv (inl j) = a .joined u v hu hv j ∙ sym (b .joined u v hu hv j)
         go u v hu hv (inr f) = a .apart u v hu hv f ∙ sym (b .apart u v hu hv f)
-
-        at : (i : ℕ) → Cell n n i → getD t i 0 ≡ getD s i 0
-        at i c =
-            subst (λ (k : ℕ). getD t k 0 ≡ getD s k 0) (sym (c .index))
-            (go (c .row) (c .column) (c .row-below) (c .column-below) (joins-or-not xs (suc (c .row)) (suc (c .column))))
 
   -- a pair that stood before leaves it as it is
   pub joined-again : (xs : List Line) (t : List ℕ) → Table n xs t → (u v : ℕ) → u < n → v < n → HasPair xs (suc u) (suc v) → withPair 1 n u v t ≡ t
