@@ -2,6 +2,7 @@
 -- `edits::list_degrees`, and of the exported ones of crate `ffi` that C and Rust link. Nothing of a contract is restated: `promised` is the contract that the checker proved.
 -- Assumes nothing.
 use mathlib.Core.Bool.{true, false}
+use mathlib.Core.Logic.{inl, inr}
 use mathlib.Core.List.{List, [], _∷_, map}
 use borrow.Fn.Kinds.{Out}
 use Rattle.model.specs.Graph.{Graph}
@@ -25,11 +26,12 @@ use Rattle.ffi.proofs.isolated_join.Reads as exported-join
 use Rattle.ffi.proofs.isolated_part.Reads as exported-part
 use Rattle.ffi.proofs.isolated_degrees.Reads as exported-list
 use Rattle.demand.specs.Demand.{Promised, Calls}
-use Rattle.demand.specs.Compiled.{AsksNothing, CompiledPage, callOf, Chained, PageHolds, ListHolds, QueryHolds, ReaderHolds, Never38Holds, ComparesLinesHolds, RepeatsHold, EditHolds, ListedHolds}
+use Rattle.demand.specs.Compiled.{Compiled, AsksNothing, CompiledPage, callOf, Chained, PageHolds, ListHolds, QueryHolds, ReaderHolds, Never38Holds, ComparesLinesHolds, RepeatsHold, made, EditHolds, CompiledEdit, editOf, UndoHolds, ChainHolds, RestoredHolds, ListedHolds}
+use Rattle.demand.specs.Edits.{Replied, AllReplied}
 use Rattle.demand.proofs.Demand.{demand}
 use Rattle.demand.proofs.Membership.{query-demand, list-demand, reader-demand}
 use Rattle.demand.proofs.Repeats.{never-38-demand, compares-lines-demand, repeats-demand}
-use Rattle.demand.proofs.Edits.{edit-demand, listed-demand}
+use Rattle.demand.proofs.Edits.{edit-demand, undo-demand, edits-chain-demand, restored-demand, listed-demand}
 
 -- ---- none of these functions asks for anything
 
@@ -135,12 +137,45 @@ exported-repeats k l = repeats-demand _ _ _ _ (k .promised) _ _ _ _ (l .promised
 
 -- ---- the edits and the list of degrees
 
+-- two contracts that are those of an edit that joins and of one that parts
+module _ (Join Part : Out 2 edit-kinds.ps edit-kinds.r)
+    (joins : (k : Compiled 2 edit-kinds.ps edit-kinds.r Join) → Replied (made true k))
+    (parts : (k : Compiled 2 edit-kinds.ps edit-kinds.r Part) → Replied (made false k)) where
+  -- each call of one of the two keeps it,
+  replied : (k : CompiledEdit Join Part) → Replied (editOf Join Part k)
+  replied (inl k) = joins k
+  replied (inr k) = parts k
+
+  -- and so does each of a list of them,
+  all-replied : (ks : List (CompiledEdit Join Part)) → AllReplied (map (editOf Join Part) ks)
+  all-replied [] = tt
+  all-replied (k ∷ ks) = (replied k, all-replied ks)
+
+  -- so that what is shown over the contracts holds of them
+  undo-holds : UndoHolds Join Part
+  undo-holds k l = undo-demand _ _ (replied k) (replied l)
+
+  chain-holds : ChainHolds Join Part
+  chain-holds ks = edits-chain-demand (map (editOf Join Part) ks) (all-replied ks)
+
+  restored-holds : RestoredHolds Join Part
+  restored-holds ks = restored-demand (map (editOf Join Part) ks) (all-replied ks)
+
 -- C-12 of `edits::join`, `edits::part` and `edits::list_degrees`.
 pub compiled-join-demand : EditHolds true join.Post
 compiled-join-demand k = edit-demand _ _ _ _ _ _ _ _ _ (k .promised)
 
 pub compiled-part-demand : EditHolds false part.Post
 compiled-part-demand k = edit-demand _ _ _ _ _ _ _ _ _ (k .promised)
+
+pub compiled-undo-demand : UndoHolds join.Post part.Post
+compiled-undo-demand = undo-holds join.Post part.Post (λ k. k .promised) (λ k. k .promised)
+
+pub compiled-chain-demand : ChainHolds join.Post part.Post
+compiled-chain-demand = chain-holds join.Post part.Post (λ k. k .promised) (λ k. k .promised)
+
+pub compiled-restored-demand : RestoredHolds join.Post part.Post
+compiled-restored-demand = restored-holds join.Post part.Post (λ k. k .promised) (λ k. k .promised)
 
 pub compiled-degrees-demand : ListedHolds list.Post
 compiled-degrees-demand k = listed-demand _ _ _ _ _ (k .promised)
@@ -151,6 +186,15 @@ exported-join-demand k = edit-demand _ _ _ _ _ _ _ _ _ (k .promised)
 
 pub exported-part-demand : EditHolds false exported-part.Post
 exported-part-demand k = edit-demand _ _ _ _ _ _ _ _ _ (k .promised)
+
+pub exported-undo-demand : UndoHolds exported-join.Post exported-part.Post
+exported-undo-demand = undo-holds exported-join.Post exported-part.Post (λ k. k .promised) (λ k. k .promised)
+
+pub exported-chain-demand : ChainHolds exported-join.Post exported-part.Post
+exported-chain-demand = chain-holds exported-join.Post exported-part.Post (λ k. k .promised) (λ k. k .promised)
+
+pub exported-restored-demand : RestoredHolds exported-join.Post exported-part.Post
+exported-restored-demand = restored-holds exported-join.Post exported-part.Post (λ k. k .promised) (λ k. k .promised)
 
 pub exported-degrees-demand : ListedHolds exported-list.Post
 exported-degrees-demand k = listed-demand _ _ _ _ _ (k .promised)

@@ -3,8 +3,8 @@
 -- Assumes nothing.
 use Prim.Native.Nat.{ℕ, _*_, _≤_}
 use mathlib.Core.Path.{_≡_}
-use mathlib.Core.Bool.{Bool}
-use mathlib.Core.Logic.{_↔_}
+use mathlib.Core.Bool.{Bool, true, false}
+use mathlib.Core.Logic.{_↔_, _⊎_, inl, inr}
 use mathlib.Core.List.{List, [], _∷_, map}
 use lib.ListN.{length}
 use contract.Lifetimes.{Lfts}
@@ -27,7 +27,7 @@ use Rattle.edits.proofs.list_degrees.Kinds as list-kinds
 use Rattle.demand.specs.Demand.{MadeCall, reported, PageDemand}
 use Rattle.demand.specs.Membership.{TextDemand}
 use Rattle.demand.specs.Repeats.{Never38, ComparesLines, SameTable}
-use Rattle.demand.specs.Edits.{EditMade, ListMade}
+use Rattle.demand.specs.Edits.{EditMade, MadeEdit, Undoes, PassesAfter, RestoredAfter, ListMade}
 
 -- A call of a compiled function: any arguments, answer and memory at exit that its contract allows.
 pub record Compiled (m : ℕ) (ps : List (PK m)) (r : RK m) (Post : Out m ps r) : Type 0 where
@@ -141,12 +141,51 @@ RepeatsHold Post =
 
 -- ---- the edits and the list of degrees
 
--- C-12 of a compiled edit that joins where b says so, and else parts, with the parameters table, degrees, n, u, v
+-- the values of a call of a function that joins where b says so, and else parts: table, degrees, n, u, v
+abbrev pub made : Bool → {Post : Out 2 edit-kinds.ps edit-kinds.r} → Compiled 2 edit-kinds.ps edit-kinds.r Post → MadeEdit
+made b k =
+    let a = k .arguments in
+    record {
+      joins = b;
+      size = a .1 .1 .0;
+      table = a .0 .now;
+      degrees = a .1 .0 .now;
+      from = a .1 .1 .1 .0;
+      to = a .1 .1 .1 .1 .0;
+      answer = k .answer;
+      table-left = k .at-exit .0 .now;
+      degrees-left = k .at-exit .1 .0 .now;
+    }
+
+-- C-12 of a compiled edit
 abbrev pub EditHolds : Bool → Out 2 edit-kinds.ps edit-kinds.r → Type 0
 EditHolds b Post =
     (k : Compiled 2 edit-kinds.ps edit-kinds.r Post)
-    → let a = k .arguments in
-    EditMade b (a .1 .1 .0) (a .0 .now) (a .1 .0 .now) (a .1 .1 .1 .0) (a .1 .1 .1 .1 .0) (k .answer) (k .at-exit .0 .now) (k .at-exit .1 .0 .now)
+    → let e = made b k in
+    EditMade b (e .size) (e .table) (e .degrees) (e .from) (e .to) (e .answer) (e .table-left) (e .degrees-left)
+
+-- of a function that joins and one that parts
+module _ (Join Part : Out 2 edit-kinds.ps edit-kinds.r) where
+  -- a call of one of the two
+  abbrev pub CompiledEdit : Type 0
+  CompiledEdit = Compiled 2 edit-kinds.ps edit-kinds.r Join ⊎ Compiled 2 edit-kinds.ps edit-kinds.r Part
+
+  -- its values
+  abbrev pub editOf : CompiledEdit → MadeEdit
+  editOf (inl k) = made true k
+  editOf (inr k) = made false k
+
+  -- C-12 of any two such calls: the one that parts undoes the one that joins, and the other way round
+  abbrev pub UndoHolds : Type 0
+  UndoHolds = (k l : CompiledEdit) → Undoes (editOf k) (editOf l)
+
+  -- of any list of them: a table and a list that pass before them pass after them,
+  abbrev pub ChainHolds : Type 0
+  ChainHolds = (ks : List CompiledEdit) → PassesAfter (map editOf ks)
+
+  -- and are the same again where the graph is
+  abbrev pub RestoredHolds : Type 0
+  RestoredHolds = (ks : List CompiledEdit) → RestoredAfter (map editOf ks)
 
 -- C-12 of a compiled call that lists the degrees, with the parameters table, degrees, n
 abbrev pub ListedHolds : Out 2 list-kinds.ps list-kinds.r → Type 0

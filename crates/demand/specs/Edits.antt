@@ -3,7 +3,7 @@
 use Prim.Native.Nat.{ℕ, _≤_}
 use mathlib.Core.Path.{_≡_}
 use mathlib.Core.Bool.{Bool, not}
-use mathlib.Core.Logic.{_≢_}
+use mathlib.Core.Logic.{_≢_, _⊎_}
 use mathlib.Core.List.{List, [], _∷_, _++_}
 use lib.Dec.{eqb}
 use Rattle.model.specs.Graph.{degreeList}
@@ -37,39 +37,83 @@ abbrev pub EditDemand : Type 0
 EditDemand =
     (b : Bool) (n : ℕ) (t d : List ℕ) (u v : ℕ) (a : EditAnswer) (t₁ d₁ : List ℕ) → EditReplies b n t d u v a t₁ d₁ → EditMade b n t d u v a t₁ d₁
 
--- an edit that changed something, and then the other edit of the same pair: the second is accepted and gives back table and list, entry for entry
-abbrev pub UndoDemand : Type 0
-UndoDemand =
-    (b : Bool) (n : ℕ) (t d : List ℕ) (u v : ℕ) (a : EditAnswer) (t₁ d₁ : List ℕ) → EditReplies b n t d u v a t₁ d₁
-    → a .refusal ≡ 0 → a .unchanged ≡ 0
-    → (a₂ : EditAnswer) (t₂ d₂ : List ℕ) → EditReplies (not b) n t₁ d₁ u v a₂ t₂ d₂
-    → (a₂ .refusal ≡ 0) × (a₂ .unchanged ≡ 0) × (t₂ ≡ t) × (d₂ ≡ d)
+-- ---- an edit after another
 
--- ---- any list of edits
-
--- one edit of a list: which, its answer, and the table and the list as it left them
+-- one edit of several: the arguments and the lent memory that it was handed, its answer, and the table and the list as it left them
 pub record MadeEdit : Type 0 where
   pub joins : Bool
+  pub size : ℕ
+  pub table : List ℕ
+  pub degrees : List ℕ
   pub from : ℕ
   pub to : ℕ
   pub answer : EditAnswer
   pub table-left : List ℕ
   pub degrees-left : List ℕ
 
--- edits of which the first is handed the table t and the list d, and each later one those as the edit before it left them
-abbrev pub EditsMade : ℕ → List ℕ → List ℕ → List MadeEdit → Type 0
-EditsMade n t d [] = Unit {0}
-EditsMade n t d (e ∷ es) =
-    EditReplies (e .joins) n t d (e .from) (e .to) (e .answer) (e .table-left) (e .degrees-left) × EditsMade n (e .table-left) (e .degrees-left) es
+-- its contract
+abbrev pub Replied : MadeEdit → Type 0
+Replied e = EditReplies (e .joins) (e .size) (e .table) (e .degrees) (e .from) (e .to) (e .answer) (e .table-left) (e .degrees-left)
 
--- table and list as the last of them leaves them pass 1 to 5 and 42
-abbrev pub PassesAfter : ℕ → List ℕ → List ℕ → List MadeEdit → Type 0
-PassesAfter n t d [] = lent n t d .fault ≡ 0
-PassesAfter n t d (e ∷ es) = PassesAfter n (e .table-left) (e .degrees-left) es
+-- it was handed this size, table and list
+abbrev pub Handed : ℕ → List ℕ → List ℕ → MadeEdit → Type 0
+Handed n t d e = (e .size ≡ n) × (e .table ≡ t) × (e .degrees ≡ d)
 
--- where they pass before a list of edits, accepted and refused ones in any order, they pass after it
+-- x and y are u and v, in either order
+abbrev pub SamePair : ℕ → ℕ → ℕ → ℕ → Type 0
+SamePair u v x y = ((x ≡ u) × (y ≡ v)) ⊎ ((x ≡ v) × (y ≡ u))
+
+-- where e changed something, and f is the other edit of the same pair, on table and list as e left them: f is accepted and gives back those that e was
+-- handed, entry for entry
+abbrev pub Undoes : MadeEdit → MadeEdit → Type 0
+Undoes e f =
+    e .answer .refusal ≡ 0 → e .answer .unchanged ≡ 0
+    → f .joins ≡ not (e .joins) → Handed (e .size) (e .table-left) (e .degrees-left) f → SamePair (e .from) (e .to) (f .from) (f .to)
+    → (f .answer .refusal ≡ 0) × (f .answer .unchanged ≡ 0) × (f .table-left ≡ e .table) × (f .degrees-left ≡ e .degrees)
+
+-- that of every two edits
+abbrev pub UndoDemand : Type 0
+UndoDemand = (e f : MadeEdit) → Replied e → Replied f → Undoes e f
+
+-- ---- any list of edits
+
+-- each of them keeps its contract
+abbrev pub AllReplied : List MadeEdit → Type 0
+AllReplied [] = Unit {0}
+AllReplied (e ∷ es) = Replied e × AllReplied es
+
+-- the first is handed the table t and the list d, and each later one those as the edit before it left them
+abbrev pub HandedOn : ℕ → List ℕ → List ℕ → List MadeEdit → Type 0
+HandedOn n t d [] = Unit {0}
+HandedOn n t d (e ∷ es) = Handed n t d e × HandedOn n (e .table-left) (e .degrees-left) es
+
+-- a table t as the last of them leaves it
+abbrev pub tableAfter : List ℕ → List MadeEdit → List ℕ
+tableAfter t [] = t
+tableAfter t (e ∷ es) = tableAfter (e .table-left) es
+
+-- and so a list d
+abbrev pub degreesAfter : List ℕ → List MadeEdit → List ℕ
+degreesAfter d [] = d
+degreesAfter d (e ∷ es) = degreesAfter (e .degrees-left) es
+
+-- where table and list pass 1 to 5 and 42 before such edits, accepted and refused ones in any order, they pass after them
+abbrev pub PassesAfter : List MadeEdit → Type 0
+PassesAfter es = (n : ℕ) (t d : List ℕ) → lent n t d .fault ≡ 0 → HandedOn n t d es → lent n (tableAfter t es) (degreesAfter d es) .fault ≡ 0
+
+-- and where the graph is then the same again, whatever edits were made in between, so are table and list, entry for entry
+abbrev pub RestoredAfter : List MadeEdit → Type 0
+RestoredAfter es =
+    (n : ℕ) (t d : List ℕ) → lent n t d .fault ≡ 0 → HandedOn n t d es
+    → graphOf n (tableAfter t es) ≡ graphOf n t
+    → (tableAfter t es ≡ t) × (degreesAfter d es ≡ d)
+
+-- both of every list of edits
 abbrev pub ChainDemand : Type 0
-ChainDemand = (n : ℕ) (t d : List ℕ) → lent n t d .fault ≡ 0 → (es : List MadeEdit) → EditsMade n t d es → PassesAfter n t d es
+ChainDemand = (es : List MadeEdit) → AllReplied es → PassesAfter es
+
+abbrev pub RestoredDemand : Type 0
+RestoredDemand = (es : List MadeEdit) → AllReplied es → RestoredAfter es
 
 -- ---- the list of degrees
 
