@@ -2,14 +2,16 @@
 //!
 //! The reference: `graph`, `cliques` (a Bron-Kerbosch listing), `groups` (filtered by the definitions), `walk` (the
 //! walk as document 01 words it), `calls` (what page, set query and edits reply), `text` (the reader) and `program` (what
-//! the program prints). `lent` and `library` lend guarded memory to the library; `random`, `samples` and `cases` make the
-//! cases.
+//! the program prints). `lent` and `library` lend guarded memory to the library; `kept` has it edit a graph beside a set of
+//! pairs, and `faults` has it turn back faulty ones; `random`, `samples` and `cases` make the cases.
 
 pub mod calls;
 pub mod cases;
 pub mod cliques;
+pub mod faults;
 pub mod graph;
 pub mod groups;
+pub mod kept;
 pub mod lent;
 pub mod library;
 pub mod program;

@@ -35,6 +35,13 @@ impl Random {
         &list[self.below(list.len())]
     }
 
+    /// Two different numbers less than `n`, which is 2 or more, in either order.
+    pub fn pair(&mut self, n: usize) -> (usize, usize) {
+        let u = self.below(n);
+        let v = (u + self.between(1, n - 1)) % n;
+        (u, v)
+    }
+
     /// So many entries of any contents.
     pub fn entries(&mut self, count: usize) -> Vec<u16> {
         (0..count).map(|_| self.number() as u16).collect()

@@ -2,6 +2,7 @@
 
 use outside::calls;
 use outside::cases::cases;
+use outside::faults::{check_refused, middle_or_large, LentGraph};
 use outside::graph::Graph;
 use outside::groups::{Reference, Settings};
 use outside::library::{self, DegreesReply, Edit, EditAnswer, EditReply, EditRequest};
@@ -132,32 +133,71 @@ fn the_widest_record() {
     assert_eq!(enough.answer, PageAnswer { stop: 2, groups: 1, steps: 1025, used: 1025, ..PageAnswer::default() });
 }
 
-/// Refusals 1 to 5, 42, 9 and 10 where n is 1,024 or 1,025 and all lengths fit.
+/// Refusals 1 to 5 and 42 of every call that takes a graph, at the last byte and the last degree of 1,024 vertices.
 #[test]
-fn refusals_at_large_n() {
+fn refused_graphs_of_1024_vertices() {
     let mut random = Random::new(9);
-    let settings = Settings { notion: 1, kind: 1, c: 3 };
-    let over = PageRequest::fresh(&mut random, &Graph::empty(1025), settings, 5, 5);
-    assert_eq!(library::page(&over).answer, PageAnswer { refusal: 1, ..PageAnswer::default() });
+    check_refused(&mut random, &LentGraph::of(&Graph::empty(1025)), 1);
     let last = 1024 * 1024 - 1;
-    let spoiled: [(u32, fn(&mut PageRequest, usize)); 10] = [
-        (2, |request, _| request.table.push(0)),
-        (3, |request, last| request.table[last] = 2),
-        (4, |request, last| request.table[last] = 1),
-        (5, |request, last| request.table[last - 1] = 1),
-        (42, |request, _| request.degrees[1023] = 1),
-        (42, |request, _| request.degrees.push(0)),
-        (42, |request, _| request.degrees.truncate(1023)),
-        (9, |request, _| request.position.push(0)),
-        (10, |request, _| request.work.truncate(8 * 1024 - 1)),
-        (21, |request, _| request.position[1023] = 3),
+    let spoiled: [(u32, fn(&mut LentGraph, usize)); 8] = [
+        (2, |lent, _| lent.table.push(0)),
+        (2, |lent, last| lent.table.truncate(last)),
+        (3, |lent, last| lent.table[last] = 2),
+        (4, |lent, last| lent.table[last] = 1),
+        (5, |lent, last| lent.table[last - 1] = 1),
+        (42, |lent, _| lent.degrees[1023] = 1),
+        (42, |lent, _| lent.degrees.push(0)),
+        (42, |lent, _| lent.degrees.truncate(1023)),
+    ];
+    for (refusal, spoil) in spoiled {
+        let mut lent = LentGraph::of(&Graph::empty(1024));
+        spoil(&mut lent, last);
+        check_refused(&mut random, &lent, refusal);
+    }
+}
+
+/// Refusals 2 to 5 and 42 of every call that takes a graph, in row or column 14 or a later one of any graph.
+#[test]
+fn refused_graphs_of_15_vertices_and_more() {
+    cases("refused_graphs_of_15_vertices_and_more", 60, |random| {
+        let n = middle_or_large(random);
+        let graph = samples::any(random, n);
+        for refusal in [2, 3, 3, 4, 4, 5, 5, 42, 42] {
+            let mut lent = LentGraph::of(&graph);
+            lent.spoil(random, refusal);
+            check_refused(random, &lent, refusal);
+        }
+    });
+}
+
+/// Refusals of page and set query that are not of the graph, where it has 1,024 vertices.
+#[test]
+fn refused_slices_of_1024_vertices() {
+    let mut random = Random::new(11);
+    let settings = Settings { notion: 1, kind: 1, c: 3 };
+    let spoiled: [(u32, fn(&mut PageRequest)); 3] = [
+        (9, |request| request.position.push(0)),
+        (10, |request| request.work.truncate(8 * 1024 - 1)),
+        (21, |request| request.position[1023] = 3),
     ];
     for (refusal, spoil) in spoiled {
         let mut request = PageRequest::fresh(&mut random, &Graph::empty(1024), settings, 5, 5);
-        spoil(&mut request, last);
+        spoil(&mut request);
         let reply = library::page(&request);
         assert_eq!(reply.answer, PageAnswer { refusal, ..PageAnswer::default() });
         assert_eq!((reply.position, reply.output), (request.position, request.output));
+        assert!(reply.work == Some(request.work), "the work slice at {refusal}");
+    }
+    let spoiled: [(u32, fn(&mut SetRequest)); 3] = [
+        (9, |request| request.set.truncate(1023)),
+        (10, |request| request.work.truncate(8 * 1024 - 1)),
+        (11, |request| request.set[1023] = 2),
+    ];
+    for (refusal, spoil) in spoiled {
+        let mut request = SetRequest::of(&mut random, &Graph::empty(1024), settings, vec![0; 1024]);
+        spoil(&mut request);
+        let reply = library::set_query(&request);
+        assert_eq!(reply.answer, SetAnswer { refusal, yes: 0 });
         assert!(reply.work == Some(request.work), "the work slice at {refusal}");
     }
 }
