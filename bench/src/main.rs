@@ -2,7 +2,6 @@
 
 mod clock;
 mod edits;
-mod first_page;
 mod graphs;
 mod growth;
 mod kerbosch;
@@ -17,7 +16,6 @@ mod twins;
 fn main() {
     steps::print();
     twins::print();
-    first_page::print();
     openings::print();
     edits::print();
     lists::print();

@@ -1,4 +1,5 @@
-//! The opening of a page beside the same in safe Rust, as it is and as it was before the degrees were lent.
+//! What a page costs before its first step, the tests of its arguments and the ranks: beside the same in safe Rust, as it is
+//! and as it was before the degrees were lent, and beside a plain sum of the table's bytes.
 
 use crate::clock::medians;
 use crate::graphs::{near_cliques, random, Graph};
@@ -56,25 +57,34 @@ fn compare(name: &str, graph: &Graph) {
                 black_box(before(black_box(table), n, &mut its_degrees, black_box(&mut its_order)));
             }
         },
+        &mut || {
+            for _ in 0..times {
+                black_box(black_box(table).iter().map(|&byte| u64::from(byte)).sum::<u64>());
+            }
+        },
     ]);
-    let [page, now, then] = [0, 1, 2].map(|side| medians[side] / times as f64);
+    let [page, now, then, sum] = [0, 1, 2, 3].map(|side| medians[side] / times as f64);
     println!(
-        "| {name} | {n} | {} | {} | {} | {:.2} | {:.2} | {:.2} |",
+        "| {name} | {n} | {} | {} | {} | {} | {:.2} | {:.2} | {:.2} | {:.1} | {:.2} |",
         shown::time(page),
         shown::time(now),
         shown::time(then),
+        shown::time(sum),
         page / now,
         page / then,
-        now / then
+        now / then,
+        page / sum,
+        page / (n * n) as f64
     );
 }
 
 pub fn print() {
-    println!("## The opening of a page before and after the degrees were lent\n");
-    println!("A page with budget 0 beside the same opening in safe Rust. After: refusals 1 to 5, the lent degrees beside the rows, ranks");
-    println!("by counting. Before: refusals 1 to 5, the degrees of the rows, ranks by comparing every two vertices.\n");
-    println!("| graph | n | page, budget 0 | after | before | page to after | page to before | after to before |");
-    println!("|---|---|---|---|---|---|---|---|");
+    println!("## The opening of a page\n");
+    println!("A page with budget 0 beside the same opening in safe Rust, after and before the degrees were lent, and beside a plain sum of");
+    println!("the table's bytes. After: refusals 1 to 5, the lent degrees beside the rows, ranks by counting. Before: refusals 1 to 5,");
+    println!("the degrees of the rows, ranks by comparing every two vertices. The last column: page, by table byte.\n");
+    println!("| graph | n | page, budget 0 | after | before | sum | page to after | page to before | after to before | page to sum | ns a byte |");
+    println!("|---|---|---|---|---|---|---|---|---|---|---|");
     for n in [64, 256, 1024] {
         compare("near-cliques of 8", &near_cliques(n));
         compare("random, degree 12", &random(n, 12, 5));
