@@ -31,7 +31,8 @@
  *
  * A graph that changes
  *   A program that keeps a graph up to date has a table and a list, and goes about it like this:
- *     1. It fills the table: by isolated_read_text(), or with n * n zeros, which are n vertices without an edge.
+ *     1. It fills the table: by isolated_read_text(), or with n * n zeros, which are n vertices without an edge. A
+ *        table that was lent larger to isolated_read_text() is lent with length exactly n * n from then on.
  *     2. It fills the list by one isolated_degrees().
  *     3. As shared chunks come and go it calls isolated_join() and isolated_part(). Each writes the pair in both rows
  *        and its two degrees, and nothing else, so that steps 3 and 4 follow one another all day in any order.
@@ -41,12 +42,18 @@
  *     isolated_join(table, n * n, degrees, n, n, 7, 9);
  *     isolated_part(table, n * n, degrees, n, n, 7, 8);
  *     memset(position, 0, n);
- *     page = isolated_page(table, n * n, degrees, n, position, n, output, n + 1, work, ISOLATED_WORK(n), n,
- *                          ISOLATED_MAX, ISOLATED_MAXIMAL_ISOLATED, 2, 1000000);
- *   Each of them tells a refusal, which this leaves out. A page moves on by ranks, and an edit changes degrees and so
- *   ranks: a walk that was begun before an edit starts again from a fresh position. Only where the edits between two
- *   pages have all been undone, so that the table is again as it was, may it go on. Who writes the table by other
- *   means calls isolated_degrees() again, since a list that is not the table's is refused (42).
+ *     do {
+ *         page = isolated_page(table, n * n, degrees, n, position, n, output, n + 1, work, ISOLATED_WORK(n), n,
+ *                              ISOLATED_MAX, ISOLATED_MAXIMAL_ISOLATED, 2, 1000000);
+ *         // read output[0] to output[page.used - 1]
+ *     } while (page.refusal == 0 && page.stop != ISOLATED_STOP_FINISHED);
+ *   The first three tell a refusal too, which this leaves out. A page moves on by ranks, and an edit changes degrees
+ *   and so ranks: a walk that was begun before an edit starts again from a fresh position. A stale position goes
+ *   unnoticed: one from before an edit is mostly accepted, and the list is then wrong; no call notices it. Only where
+ *   the edits between two pages have all been undone, so that the table is again as it was, may the walk go on.
+ *   Each edit tests the whole table. To make many changes at once, write them into the table, each pair in both rows,
+ *   and count once by isolated_degrees(). Who writes the table must count again in any case, since a list that is not
+ *   the table's is refused (42).
  *   The number of vertices stays. One that leaves is parted from all its neighbours; it is then listed by itself, as
  *   every vertex without neighbours is.
  *
@@ -69,8 +76,9 @@
  *
  * Time
  *   Each call that takes a graph tests the whole table again, and but for isolated_degrees(), which counts them, the
- *   degrees against it: time in proportion to n * n, whatever the budget. For an edit that is nearly all. For a page on a sparse graph it is as long as some
- *   n * n / 4 steps, so with budgets much below n * n most of the time goes into these tests.
+ *   degrees against it: time in proportion to n * n, whatever the budget. For an edit that is nearly all. For a page on
+ *   a sparse graph it is as long as some n * n / 3 steps, so with smaller budgets most of the time goes into these
+ *   tests.
  *   A step takes time in proportion to n at most, and how many steps a walk has follows from the graph and c alone.
  *   Where all ranks are decided the taken set is tested before the step. Under ISOLATED_AVG and ISOLATED_MAX with
  *   ISOLATED_MAXIMAL_ISOLATED that test may search the common neighbours of an isolated clique, of which there are
@@ -362,7 +370,8 @@ uint32_t isolated_degrees(const uint8_t *table, size_t table_length, uint16_t *d
  *   text, text_length    the text, of any length; read only.
  *   table, table_length  at least N * N bytes with any contents. Accepted: the first N * N bytes hold the graph's
  *                        table, the rest is untouched. Refused before a p line has passed: nothing is written.
- *                        Refused after it: the first N * N bytes, with that line's N, are 0.
+ *                        Refused after it: the first N * N bytes, with that line's N, are 0. Every other call wants
+ *                        the table with length exactly N * N, also where more was lent here.
  */
 isolated_text_answer isolated_read_text(const uint8_t *text, size_t text_length, uint8_t *table, size_t table_length);
 

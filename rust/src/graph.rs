@@ -243,7 +243,8 @@ impl Graph {
     ///
     /// # Errors
     ///
-    /// [`Refusal::NoVertex`] where a member is not below n, [`Refusal::Factor`] where the factor is out of its bounds.
+    /// [`Refusal::NoVertex`] where a member is not below n, then [`Refusal::Factor`] where the factor is out of its
+    /// bounds.
     ///
     /// # Panics
     ///

@@ -8,6 +8,9 @@ use std::iter::FusedIterator;
 /// a walk of few groups still comes back now and then.
 const BUDGET: u32 = 1 << 20;
 
+/// The most entries of a room's output, 32 MiB. By then the tests at the start of a page take little of its time.
+const OUTPUT: usize = 1 << 24;
+
 /// The memory of a listing: its position, its output and its work slice. It is made by the caller and lent to
 /// [`Groups::new`], so that one room serves many graphs, of any number of vertices up to the one it was made for.
 pub struct Room {
@@ -24,11 +27,12 @@ impl Room {
         Room::with_output(n, 4096)
     }
 
-    /// A room with an output of this many entries, or of n + 1 where this is more: any group fits then.
+    /// A room with an output of this many entries, or of n + 1 where this is more: any group fits then. More than 2^24
+    /// entries, which are 32 MiB, count as that.
     #[must_use]
     pub fn with_output(n: usize, entries: usize) -> Room {
         let n = n.min(VERTICES);
-        Room { position: vec![0; n], output: vec![0; entries.max(n + 1)], work: vec![0; work_entries(n)] }
+        Room { position: vec![0; n], output: vec![0; entries.clamp(n + 1, OUTPUT)], work: vec![0; work_entries(n)] }
     }
 
     /// The most vertices of a graph that it serves.

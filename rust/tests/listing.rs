@@ -63,6 +63,17 @@ fn a_room_serves_every_smaller_graph() {
     }
 }
 
+/// More entries than memory has are no mistake that panics.
+#[test]
+fn a_room_of_any_output() {
+    let settings = Settings::new(Notion::Avg, Kind::MaximalIsolated, 2);
+    for n in [3, 1024, usize::MAX] {
+        let mut room = Room::with_output(n, usize::MAX);
+        assert_eq!(format!("{room:?}"), format!("Room {{ vertices: {}, output: 16777216, .. }}", n.min(1024)));
+        assert_eq!(all_groups(&ring(3), 3, settings, &mut room), all_groups(&ring(3), 3, settings, &mut Room::new(3)));
+    }
+}
+
 /// A larger graph is refused by 9, unless something that is tested before is wrong too.
 #[test]
 fn a_room_refuses_a_larger_graph() {
