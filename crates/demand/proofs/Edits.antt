@@ -10,7 +10,7 @@ use lib.Dec.{eqb}
 use Rattle.model.specs.Below.{bit}
 use Rattle.model.specs.Fault.{FirstFault}
 use Rattle.model.specs.Edits.{refuse_edit, EditReply, edit_call, Edited, refuse_list}
-use Rattle.theory.proofs.Basics.Tests.{bit-one, bit_most}
+use Rattle.theory.proofs.Basics.Tests.{bit-one}
 use Rattle.theory.proofs.Calls.TableFaults.{byte_table_lem}
 use Rattle.theory.proofs.Calls.DegreeFaults.{with_degrees_lem, lent-once}
 use Rattle.theory.proofs.Calls.Edits.{edit_number, edit_left, edit_first, edited, edit_chains, edit_undone, edit_turned}
@@ -21,6 +21,10 @@ use Rattle.edits.specs.Edits.{EditReplies}
 use Rattle.demand.specs.Edits.{told, EditDemand, MadeEdit, Replied, Handed, SamePair, UndoDemand, table_after, degrees_after, ChainDemand, RestoredDemand, ListedDemand}
 
 -- ---- an edit
+
+bit-small : (b : Bool) → bit b ≤ 1
+bit-small true = omega arith
+bit-small false = omega arith
 
 module _ {b : Bool} {n : ℕ} {t d : List ℕ} {u v : ℕ} {a : EditAnswer} {t₁ d₁ : List ℕ} (h : EditReplies b n t d u v a t₁ d₁) where
   -- what it told is the reply
@@ -55,7 +59,7 @@ edit_demand b n t d u v a t₁ d₁ h =
       first = subst⁻¹ (FirstFault _) (number_is h) (edit_first (with_degrees_lem (byte_table_lem n t) d) u v);
       refused = told-refused h;
       accepted = λ z. subst⁻¹ (Edited b n u v t d) (told_is h) (edited b n t d u v (sym h.refusal ∙ z));
-      zero_or_one = let e = h.unchanged in let s = bit_most (edit_call b n t d u v).unchanged in omega arith;
+      zero_or_one = let e = h.unchanged in let s = bit-small (edit_call b n t d u v).unchanged in omega arith;
       passes_again = told-passes h;
     }
 

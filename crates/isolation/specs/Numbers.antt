@@ -1,10 +1,9 @@
 -- The settings and a set's numbers as code hands them on, and the tests of `Rattle.theory.specs.Search` over them.
 -- Assumes nothing.
-use Rattle.std.specs.Prelude.{ℕ, ◌+◌, ◌*◌, ◌≤◌, min, max, Bool, List}
+use Rattle.std.specs.Prelude.{ℕ, ◌+◌, ◌≤◌, min, max, Bool, List}
 use Rattle.model.specs.Graph.{Graph}
 use Rattle.model.specs.Groups as groups
 use Rattle.theory.specs.Search as search
-use Rattle.theory.specs.Marks.{Marks, find_marked, find_with}
 use Rattle.isolation.specs.declared.Settings.{Settings}
 use Rattle.isolation.specs.declared.Tally.{Tally}
 
@@ -29,33 +28,13 @@ pub record Small (s : Settings) (k : ℕ) : Type 0 where
 abbrev pub isolated_of : Settings → Tally → Bool
 isolated_of s t = search.isolated_by s.notion (settings_of s).factor t.members t.sum t.least t.largest
 
--- the numbers with x further members, of the degree that none of them is below, the least degree left as it is
-abbrev pub grown_of : Tally → ℕ → ℕ → Tally
-grown_of t x low =
-    record {
-      members = t.members + x;
-      sum = t.sum + x * search.further_degree low t.members x;
-      least = t.least;
-      largest = max t.largest (search.further_degree low t.members x);
-    }
+-- no superset within r further candidates is isolated
+abbrev pub hopeless_of : Settings → Tally → ℕ → Bool
+hopeless_of s t r = search.hopeless s.notion (settings_of s).factor t.members r t.sum t.largest
 
--- no clique with 1 to r further members, each of degree low or more, is isolated
-abbrev pub hopeless_of : Settings → Tally → ℕ → ℕ → Bool
-hopeless_of s t r low = search.hopeless s.notion (settings_of s).factor low r t.members t.sum t.least t.largest
-
--- the search over marks, of the r candidates from place j on, none of a degree below low
-abbrev pub find_of : Graph → Settings → ℕ → (ℕ → ℕ) → Marks → Tally → ℕ → ℕ → Bool
-find_of G s low candidate marks t j r =
-    find_marked G s.notion (settings_of s).factor low candidate marks t.members t.sum t.least t.largest j r
-
--- the same with v added
-abbrev pub with_of : Graph → Settings → ℕ → (ℕ → ℕ) → Marks → Tally → ℕ → ℕ → ℕ → Bool
-with_of G s low candidate marks t v j r =
-    find_with G s.notion (settings_of s).factor low candidate marks t.members t.sum t.least t.largest v j r
-
--- the first way down, by the least that degrees can be
-abbrev pub first_of : Graph → Settings → List ℕ → Tally → List ℕ → Bool
-first_of G s added t vs = search.find_first G s.notion (settings_of s).factor 0 added t.members t.sum t.least t.largest vs
+-- the search that leaves a hopeless branch
+abbrev pub find_of : Graph → Settings → List ℕ → Tally → List ℕ → Bool
+find_of G s added t vs = search.findCut G s.notion (settings_of s).factor added t.members t.sum t.least t.largest vs
 
 -- whether an isolated clique with these numbers and the candidates vs is not maximal
 abbrev pub beaten_of : Graph → Settings → Tally → List ℕ → Bool

@@ -2,7 +2,7 @@
 ghost use Rattle.std.specs.Prelude.{◌≡◌, ◌+◌, ◌-◌, ◌≤◌, min, max};
 ghost use Rattle.model.specs.Groups.{within};
 ghost use Rattle.model.specs.Calls.{refuse_settings};
-ghost use Rattle.isolation.specs.Numbers.{settings_of, with_member, Small, isolated_of, grown_of, hopeless_of};
+ghost use Rattle.isolation.specs.Numbers.{settings_of, with_member, Small, isolated_of, hopeless_of};
 
 // What a call fixes beside the graph: notion 0 min, 1 avg, 2 max; kind 0 maximal isolated, 1 isolated maximal; the factor c.
 #[derive(Drop)]
@@ -48,7 +48,7 @@ pub fn less(a: usize, b: usize) -> usize
 }
 
 // The smaller of a and b.
-pub fn smaller(a: usize, b: usize) -> usize
+fn smaller(a: usize, b: usize) -> usize
     ensures { result ≡ min a b }
 {
     if b < a { b } else { a }
@@ -86,41 +86,21 @@ pub fn isolated_by(s: Settings, t: Tally) -> bool
     within(s, 1, less(t.largest, others))
 }
 
-// The numbers t with x further members, of the degree that none of them is below: low, or how many others the clique then has. The least degree is left as it
-// is.
-fn grown(t: Tally, x: usize, low: usize) -> Tally
-    requires { (t.members + x ≤ 1024) × (t.sum ≤ 67107840) × (low ≤ 65535) }
-    ensures { result ≡ grown_of t x low }
+// Whether no superset of a set with the numbers t, within r further candidates, is isolated: each member loses at most r more of its neighbours outside.
+// Under min it says no.
+pub fn hopeless(s: Settings, t: Tally, r: usize) -> bool
+    requires { Small s (t.members + r) }
+    ensures { result ≡ hopeless_of s t r }
 {
-    let members = t.members + x;
-    let others = less(members, 1);
-    let each = greater(low, others);
-    let largest = greater(t.largest, each);
-    let sum = t.sum + x * each;
-    Tally {
-        members,
-        sum,
-        least: t.least,
-        largest,
-    }
-}
-
-// Whether no clique of the members with the numbers t and 1 to r further ones, each of degree low or more, is isolated: neither with r nor with 1 of degree
-// low. Under min it says no.
-pub fn hopeless(s: Settings, t: Tally, r: usize, low: usize) -> bool
-    requires { Small s (t.members + r) × (t.sum ≤ 67107840) × (low ≤ 65535) }
-    ensures { result ≡ hopeless_of s t r low }
-{
+    let all = t.members + r;
+    let most = less(all, 1);
     if s.notion == 0 {
         return false;
     }
-    if r == 0 {
-        return true;
+    if s.notion == 1 {
+        return !within(s, all, less(t.sum, t.members * most));
     }
-    if isolated_by(s, grown(t, r, low)) {
-        return false;
-    }
-    !isolated_by(s, grown(t, 1, low))
+    !within(s, 1, less(t.largest, most))
 }
 
 // The numbers t with one more member, of degree d.

@@ -1,176 +1,248 @@
--- The search for a larger isolated clique over marks, one candidate at a time.
+-- The search for a larger isolated clique, one candidate at a time.
 -- Assumes nothing.
-use Prim.Native.Nat.{ℕ, ◌+◌, ◌-◌, ◌≤◌, ◌<◌}
+use Prim.Native.Nat.{ℕ, ◌+◌, ◌-◌, ◌*◌, ◌≤◌, ◌<◌}
 use mathlib.Core.Path.{◌≡◌, refl, sym, ap, ◌∙◌, subst}
 use mathlib.Core.Bool.{Bool, true, false}
-use mathlib.Core.List.{List}
-use mathlib.Core.Logic.{◌≢◌}
+use mathlib.Core.List.{List, [], ◌∷◌, ◌++◌}
+use mathlib.Core.Logic.{◌⊎◌, inl, inr}
+use native.Mathlib.Nat.{add_assoc}
 use native.Mathlib.Omega.{arith}
-use lib.ListN.{length}
-use Rattle.model.specs.Graph.{Graph}
-use Rattle.theory.specs.Marks.{still_in, count_in}
-use Rattle.theory.proofs.Basics.Tests.{fails}
-use Rattle.theory.proofs.Search.Marks.{still_in_test, count_in_lem, count-out, count_most}
-use Rattle.theory.proofs.Search.Steps.{marked_end, marked_out, marked_hopeless, marked_found, marked_next}
-use Rattle.graph.specs.Table.{graph_of}
+use lib.ListN.{length, get_or, drop, set}
+use lib.Seq.{get_or-set_same, get_or-set_other}
+use Rattle.model.specs.Graph.{Graph, degree}
+use Rattle.theory.specs.Search.{joined_all}
+use Rattle.theory.proofs.Basics.Tests.{trichotomy}
+use Rattle.theory.proofs.Search.Steps.{cut-end, cut-hopeless, cut_apart, cut-here, cut-deeper, cut-next}
+use Rattle.graph.specs.Degrees.{ReadsDegree}
 use Rattle.isolation.specs.declared.Settings.{Settings}
 use Rattle.isolation.specs.declared.Tally.{Tally}
-use Rattle.isolation.specs.Numbers.{hopeless_of, find_of}
-use Rattle.larger.specs.Marks.{candidates_in, marks_in}
-use Rattle.larger.specs.Search.{SearchFits, Room, RoomWith, Searched, SearchedWith}
-use Rattle.larger.proofs.Adding.{restored-yes, restored_no}
+use Rattle.isolation.specs.Numbers.{with_member, isolated_of, hopeless_of, find_of}
+use Rattle.theory.specs.Parts.{part, members_at, candidates_at, SamePart, HoldsVertices}
+use Rattle.larger.specs.Search.{SearchFits, Room, SearchKept, Searched}
+use Rattle.theory.proofs.Basics.Parts.{part_length, part_at, part_same, part_push, state-none, state-set, state_then}
+use Rattle.graph.specs.Table.{graph_of}
 
--- before candidate j, with `still` of the candidates left still in: what the search says from i on it says from j on, and the slice is as it was
-pub record At (n : ℕ) (t degrees w₀ : List ℕ) (s : Settings) (y : Tally) (low i m left : ℕ) (w : List ℕ) (still j : ℕ) : Type 0 where
+-- those that the search has added, and the candidates
+abbrev pub addedIn : ℕ → List ℕ → Tally → ℕ → List ℕ
+addedIn n w y base = part w (members_at n + base) (y.members - base)
+
+abbrev pub candidates_in : ℕ → List ℕ → ℕ → List ℕ
+candidates_in n w m = part w (candidates_at n) m
+
+-- before candidate j: what the search says from i on it says from j on, and what it keeps is as it was
+pub record At (n : ℕ) (t degrees w₀ : List ℕ) (s : Settings) (y : Tally) (base i m : ℕ) (w : List ℕ) (j : ℕ) : Type 0 where
   pub lent : SearchFits n t degrees w₀
-  pub room : Room n w₀ s y low i m left
+  pub room : Room n w₀ s y base i m
   pub from : i ≤ j
-  pub upto : j ≤ m
-  pub same-slice : w ≡ w₀
-  pub count : still ≡ count_in (marks_in n w₀) j (m - j)
-  pub same : find_of (graph_of n t) s low (candidates_in n w₀) (marks_in n w₀) y i (m - i) ≡ find_of (graph_of n t) s low (candidates_in n w₀) (marks_in n w₀) y j (m - j)
+  pub kept : SearchKept n y.members m w₀ w
+  pub same : find_of (graph_of n t) s (addedIn n w₀ y base) y (drop i (candidates_in n w₀ m)) ≡ find_of (graph_of n t) s (addedIn n w₀ y base) y (drop j (candidates_in n w₀ m))
 
-pub at_start : {n : ℕ} {t degrees w₀ : List ℕ} {s : Settings} {y : Tally} {low i m left : ℕ} → SearchFits n t degrees w₀ → Room n w₀ s y low i m left → At n t degrees w₀ s y low i m left w₀ left i
-at_start lent room =
-    record { lent = lent; room = room; from = omega arith; upto = room.order; same-slice = refl; count = room.still; same = refl }
+pub at_start : {n : ℕ} {t degrees w₀ : List ℕ} {s : Settings} {y : Tally} {base i m : ℕ} → SearchFits n t degrees w₀ → Room n w₀ s y base i m → At n t degrees w₀ s y base i m w₀ i
+at_start lent room = record { lent = lent; room = room; from = omega arith; kept = record { state = state-none; candidates = λ e h. refl }; same = refl }
 
-module _ {n : ℕ} {t degrees w₀ : List ℕ} {s : Settings} {y : Tally} {low i m left : ℕ} {w : List ℕ} {still j : ℕ} (at : At n t degrees w₀ s y low i m left w still j) where
-  abbrev room : Room n w₀ s y low i m left
+module _ {n : ℕ} {t degrees w₀ : List ℕ} {s : Settings} {y : Tally} {base i m : ℕ} {w : List ℕ} {j : ℕ} (at : At n t degrees w₀ s y base i m w j) where
+  abbrev room : Room n w₀ s y base i m
   room = at.room
 
   abbrev graph : Graph
   graph = graph_of n t
 
-  -- what the search says from place e on
-  abbrev says : ℕ → Bool
-  says e = find_of graph s low (candidates_in n w₀) (marks_in n w₀) y e (m - e)
+  abbrev added : List ℕ
+  added = addedIn n w₀ y base
 
-  pub same_length : length w ≡ length w₀
-  same_length = ap length at.same-slice
+  abbrev candidates : List ℕ
+  candidates = candidates_in n w₀ m
 
-  -- there are no more still in than there are left
-  pub still-few : still ≤ m - j
-  still-few = let k = count_most (marks_in n w₀) j (m - j) in let c = at.count in omega arith
+  -- whether v is joined to those added
+  abbrev joins-added : ℕ → Bool
+  joins-added v = joined_all graph v (part w (n + base) (n + y.members - (n + base)))
 
-  -- nothing is found from j on
-  none : says j ≡ false → Searched n t w₀ w s y low i m false
-  none e = record { answer = sym (at.same ∙ e); restored = restored_no at.same-slice }
+  all-candidates : length candidates ≡ m
+  all-candidates = let l = at.lent.parts in let f = room.few in part_length w₀ (3 * n) m (omega arith)
+
+  -- what the search says from j on is its answer
+  says : {w₁ : List ℕ} {r : Bool} → SearchKept n y.members m w₀ w₁ → find_of graph s added y (drop j candidates) ≡ r → Searched n t w₀ w₁ s y base i m r
+  says k e = record { answer = sym (at.same ∙ e); kept = k }
+
+  -- and where it says that from the next on too, candidate j is passed over
+  passes : {w₁ : List ℕ} → SearchKept n y.members m w₀ w₁ → find_of graph s added y (drop j candidates) ≡ find_of graph s added y (drop (j + 1) candidates)
+      → At n t degrees w₀ s y base i m w₁ (j + 1)
+  passes k e = record { lent = at.lent; room = room; from = omega arith; kept = k; same = at.same ∙ e }
 
   -- with no candidate left
-  pub at_end : m ≤ j → Searched n t w₀ w s y low i m false
-  at_end h = none (marked_end _ _ _ _ _ _ _ _ _ _ j m h)
+  pub at_end : m ≤ j → Searched n t w₀ w s y base i m false
+  at_end h = says at.kept (cut-end _ _ _ _ _ _ _ _ candidates j (let l = all-candidates in omega arith))
 
-  module _ (inside : j < m) {mark : ℕ} (read : mark ≡ marks_in n w j) where
-    mark_is : mark ≡ marks_in n w₀ j
-    mark_is = read ∙ ap (λ (u : List ℕ). marks_in n u j) at.same-slice
+  -- those added still stand where they stood
+  same-added : SamePart (n + base) (y.members - base) w₀ w
+  same-added e h = rw (add_assoc n base e) (at.kept.state.members (base + e) (omega arith))
 
-    -- passed over, where it has dropped out
-    pub at_out : mark ≢ 0 → At n t degrees w₀ s y low i m left w still (j + 1)
-    at_out out =
-        record {
-          lent = at.lent;
-          room = room;
-          from = let l = at.from in omega arith;
-          upto = omega arith;
-          same-slice = at.same-slice;
-          count = at.count ∙ count-out (marks_in n w₀) j m inside dropped-out;
-          same = at.same ∙ marked_out _ _ _ _ _ _ _ _ _ _ j m inside dropped-out;
-        }
-      where
-        dropped-out : still_in (marks_in n w₀) j ≡ false
-        dropped-out = fails _ (λ e. out (mark_is ∙ (still_in_test (marks_in n w₀) j).0 e))
+  pub still-added : part w (n + base) (n + y.members - (n + base)) ≡ added
+  still-added =
+      ap (part w (n + base)) shorter
+      ∙ part_same w w₀ (n + base) (y.members - base) at.kept.state.length-kept same-added
+    where
+      shorter : n + y.members - (n + base) ≡ y.members - base
+      shorter = omega arith
 
-    module _ (is_in : mark ≡ 0) where
-      still_in_lem : still_in (marks_in n w₀) j ≡ true
-      still_in_lem = (still_in_test (marks_in n w₀) j).1 (sym mark_is ∙ is_in)
+  pub added-vertices : HoldsVertices n w (n + base) (n + y.members - (n + base))
+  added-vertices e h = let k = same-added e (omega arith) in let l = room.added e (omega arith) in omega arith
 
-      count-after : still ≡ 1 + count_in (marks_in n w₀) (j + 1) (m - (j + 1))
-      count-after = at.count ∙ count_in_lem (marks_in n w₀) j m inside still_in_lem
+  module _ (inside : j < m) where
+    in_list : j < length candidates
+    in_list = let l = all-candidates in omega arith
 
-      -- so there is one
-      pub one_in : 1 ≤ still
-      one_in = let c = count-after in omega arith
+    left : length candidates - j ≡ m - j
+    left = let l = all-candidates in omega arith
 
-      leaves_is : hopeless_of s y (count_in (marks_in n w₀) j (m - j)) low ≡ hopeless_of s y still low
-      leaves_is = ap (λ (l : ℕ). hopeless_of s y l low) (sym at.count)
+    -- left, where nothing larger is isolated
+    pub at_hopeless : hopeless_of s y (m - j) ≡ true → Searched n t w₀ w s y base i m false
+    at_hopeless e = says at.kept (cut-hopeless _ _ _ _ _ _ _ _ candidates j in_list (ap (λ (r : ℕ). hopeless_of s y r) left ∙ e))
 
-      -- left, where nothing larger is isolated
-      pub at_hopeless : hopeless_of s y still low ≡ true → Searched n t w₀ w s y low i m false
-      at_hopeless e = none (marked_hopeless _ _ _ _ _ _ _ _ _ _ j m inside still_in_lem (leaves_is ∙ e))
+    -- candidate j is read
+    module _ {v : ℕ} (read : v ≡ get_or w (3 * n + j) 0) where
+      is_candidate : get_or candidates j 0 ≡ v
+      is_candidate = part_at w₀ (3 * n) m j inside ∙ sym (read ∙ at.kept.candidates j inside)
 
-  -- candidate j is to be added, with its mark read, and read itself as v: it is there and still in, and a larger set may be isolated
-  pub record Tries (mark v : ℕ) : Type 0 where
+      pub candidate-vertex : v < n
+      candidate-vertex = let k = at.kept.candidates j inside in let l = room.candidates j inside in omega arith
+
+      module _ (hope : hopeless_of s y (m - j) ≡ false) where
+        hope-left : hopeless_of s y (length candidates - j) ≡ false
+        hope-left = ap (λ (r : ℕ). hopeless_of s y r) left ∙ hope
+
+        joined_is : (b : Bool) → b ≡ joins-added v → joined_all graph (get_or candidates j 0) added ≡ b
+        joined_is b e = ap (λ (u : ℕ). joined_all graph u added) is_candidate ∙ ap (joined_all graph v) (sym still-added) ∙ sym e
+
+        -- passed over, where it is not joined to those added
+        pub at-apart : false ≡ joins-added v → At n t degrees w₀ s y base i m w (j + 1)
+        at-apart e = passes at.kept (cut_apart _ _ _ _ _ _ _ _ candidates j in_list hope-left (joined_is false e))
+
+  -- candidate j, read as v and of degree d, is added: it is there, a set with the candidates left may be isolated, it is joined to those added, and z has
+  -- the numbers with it
+  pub record Adds (v d : ℕ) (z : Tally) : Type 0 where
     pub inside : j < m
-    pub read : mark ≡ marks_in n w j
-    pub is_in : mark ≡ 0
-    pub hope : hopeless_of s y still low ≡ false
-    pub reads : v ≡ candidates_in n w j
+    pub hope : hopeless_of s y (m - j) ≡ false
+    pub read : v ≡ get_or w (3 * n + j) 0
+    pub joins : true ≡ joins-added v
+    pub degree : ReadsDegree n degrees v d
+    pub more : z ≡ with_member y d
 
-  module _ {mark v : ℕ} (tries : Tries mark v) where
+  module _ {v d : ℕ} {z : Tally} (adds : Adds v d z) where
     abbrev inside : j < m
-    inside = tries.inside
+    inside = adds.inside
 
-    is_candidate : v ≡ candidates_in n w₀ j
-    is_candidate = tries.reads ∙ ap (λ (u : List ℕ). candidates_in n u j) at.same-slice
+    pub added-vertex : v < n
+    added-vertex = candidate-vertex inside adds.read
 
-    after_is : still - 1 ≡ count_in (marks_in n w₀) (j + 1) (m - (j + 1))
-    after_is = let c = count-after inside tries.read tries.is_in in omega arith
+    degree-is : (d ≡ degree graph v) × (d ≤ n)
+    degree-is = adds.degree.degree graph refl at.lent.degrees
 
-    pub lent_with : SearchFits n t degrees w
-    lent_with = subst (SearchFits n t degrees) (sym at.same-slice) at.lent
+    with_degree_lem : z ≡ with_member y (degree graph (get_or candidates j 0))
+    with_degree_lem = adds.more ∙ ap (with_member y) (degree-is.0 ∙ ap (degree graph) (sym (is_candidate inside adds.read)))
 
-    pub room_with : RoomWith n w s y low v (j + 1) m (still - 1)
-    room_with =
-        subst (λ (u : List ℕ). RoomWith n u s y low v (j + 1) m (still - 1)) (sym at.same-slice)
+    hopeful : hopeless_of s y (length candidates - j) ≡ false
+    hopeful = hope-left inside adds.read adds.hope
+
+    joined : joined_all graph (get_or candidates j 0) added ≡ true
+    joined = joined_is inside adds.read adds.hope true adds.joins
+
+    -- found, where the set with it is isolated
+    pub at_here : true ≡ isolated_of s z → Searched n t w₀ w s y base i m true
+    at_here e =
+        says at.kept
+        (cut-here _ _ _ _ _ _ _ _ candidates j (in_list inside) hopeful joined (ap (isolated_of s) (sym with_degree_lem) ∙ sym e))
+
+    -- the slice with it added, for the candidates after it
+    abbrev taken : List ℕ
+    taken = set w (n + y.members) v
+
+    fits : n + y.members < length w
+    fits = omega arith
+
+    taken-kept : SearchKept n y.members m w₀ taken
+    taken-kept =
         record {
-          state = record {
-            factor = room.factor;
-            order = omega arith;
-            room = let l = at.from in let f = room.room in omega arith;
-            few = room.few;
-            sum = room.sum;
-            low_small = room.low_small;
-            candidates = room.candidates;
-            depths = room.depths;
-            still = after_is;
-          };
-          more = let l = at.from in let f = room.room in omega arith;
-          vertex = let k = is_candidate in let l = room.candidates j inside in omega arith;
+          state = state-set at.kept.state (omega arith) (n + y.members) v (omega arith) (inl (omega arith));
+          candidates = λ e h. get_or-set_other w (n + y.members) (3 * n + e) v 0 (λ q. omega arith) ∙ at.kept.candidates e h;
         }
 
-    module _ {w₁ : List ℕ} {r : Bool} (tried : SearchedWith n t w w₁ s y low v (j + 1) m r) where
-      tried_here : SearchedWith n t w₀ w₁ s y low (candidates_in n w₀ j) (j + 1) m r
-      tried_here =
-          subst (λ (u : List ℕ). SearchedWith n t u w₁ s y low (candidates_in n w₀ j) (j + 1) m r) at.same-slice
-          (subst (λ (u : ℕ). SearchedWith n t w w₁ s y low u (j + 1) m r) is_candidate tried)
+    pub lent-next : SearchFits n t degrees taken
+    lent-next =
+        let parts = at.lent.parts in
+        let l = taken-kept.state.length-kept in
+        record { table = at.lent.table; degrees-fit = at.lent.degrees-fit; degrees = at.lent.degrees; parts = omega arith }
 
-      hopeful : hopeless_of s y (count_in (marks_in n w₀) j (m - j)) low ≡ false
-      hopeful = leaves_is inside tries.read tries.is_in ∙ tries.hope
+    pub room_next : (from : ℕ) → j + 1 ≤ from → Room n taken s z base from m
+    room_next from past = subst (λ (x : Tally). Room n taken s x base from m) (sym adds.more) with_it
+      where
+        added_next : (e : ℕ) → e < y.members + 1 - base → get_or taken (n + base + e) 0 < n
+        added_next e h = go (trichotomy e (y.members - base))
+          where
+            go : (e < y.members - base) ⊎ (e ≡ y.members - base) ⊎ (y.members - base < e) → get_or taken (n + base + e) 0 < n
+            go (inl l) =
+                let a = get_or-set_other w (n + y.members) (n + base + e) v 0 (λ q. omega arith) in
+                let k = same-added e l in
+                let r = room.added e l in
+                omega arith
+            go (inr (inl q)) =
+                let f = room.from in
+                let k : n + base + e ≡ n + y.members = omega arith in
+                let a = get_or-set_same w (n + y.members) v 0 fits in
+                rw (k, a) added-vertex
+            go (inr (inr l)) = absurd (omega arith)
 
-      pub tried_length : length w₁ ≡ length w₀
-      tried_length = tried_here.restored.kept.length-kept
+        with_it : Room n taken s (with_member y d) base from m
+        with_it =
+            record {
+              factor = room.factor;
+              from = omega arith;
+              left = omega arith;
+              few = room.few;
+              sum = let l = degree-is.1 in omega arith;
+              added = added_next;
+              candidates = λ e h. let k = taken-kept.candidates e h in let l = room.candidates e h in omega arith;
+            }
 
-      -- found with it
-      pub at_found : r ≡ true → Searched n t w₀ w₁ s y low i m true
-      at_found e =
+    module _ {w₁ : List ℕ} {r : Bool} (deep : Searched n t taken w₁ s z base (j + 1) m r) where
+      kept-deep : SearchKept n y.members m w₀ w₁
+      kept-deep =
           record {
-            answer =
-                sym (at.same
-                ∙ marked_found _ _ _ _ _ _ _ _ _ _ j m inside (still_in_lem inside tries.read tries.is_in) hopeful (sym tried_here.answer ∙ e));
-            restored = restored-yes tried_here.restored.kept;
+            state = state_then taken-kept.state deep.kept.state (let e = ap (λ (x : Tally). x.members) adds.more in omega arith);
+            candidates = λ e h. deep.kept.candidates e h ∙ taken-kept.candidates e h;
           }
 
-      -- passed over, where nothing is found with it
-      pub at_next : r ≡ false → At n t degrees w₀ s y low i m left w₁ (still - 1) (j + 1)
-      at_next e =
-          record {
-            lent = at.lent;
-            room = room;
-            from = let l = at.from in omega arith;
-            upto = omega arith;
-            same-slice = tried_here.restored.on_no e;
-            count = after_is;
-            same =
-                at.same
-                ∙ marked_next _ _ _ _ _ _ _ _ _ _ j m inside (still_in_lem inside tries.read tries.is_in) hopeful (sym tried_here.answer ∙ e);
-          }
+      pushed : part taken (n + base) (z.members - base) ≡ added ++ (get_or candidates j 0 ∷ [])
+      pushed =
+          ap (λ (x : Tally). part taken (n + base) (x.members - base)) adds.more
+          ∙ ap (part taken (n + base)) longer
+          ∙ ap (λ (e : ℕ). part (set w e v) (n + base) (y.members - base + 1)) (sym place)
+          ∙ part_push w (n + base) (y.members - base) v (let f = fits in omega arith)
+          ∙ ap (λ (l : List ℕ). l ++ (v ∷ [])) (part_same w w₀ (n + base) (y.members - base) at.kept.state.length-kept same-added)
+          ∙ ap (λ (u : ℕ). added ++ (u ∷ [])) (sym (is_candidate inside adds.read))
+        where
+          longer : y.members + 1 - base ≡ y.members - base + 1
+          longer = omega arith
+
+          place : n + base + (y.members - base) ≡ n + y.members
+          place = omega arith
+
+      answer-deep : r ≡ find_of graph s (added ++ (get_or candidates j 0 ∷ [])) (with_member y (degree graph (get_or candidates j 0))) (drop (j + 1) candidates)
+      answer-deep =
+          deep.answer
+          ∙ ap (λ (l : List ℕ). find_of graph s l z (drop (j + 1) (candidates_in n taken m))) pushed
+          ∙ ap (λ (x : Tally). find_of graph s (added ++ (get_or candidates j 0 ∷ [])) x (drop (j + 1) (candidates_in n taken m))) with_degree_lem
+          ∙ ap (λ (l : List ℕ). find_of graph s (added ++ (get_or candidates j 0 ∷ [])) (with_member y (degree graph (get_or candidates j 0))) (drop (j + 1) l))
+          (part_same taken w₀ (3 * n) m taken-kept.state.length-kept taken-kept.candidates)
+
+      -- found with it and more
+      pub at-deeper : r ≡ true → Searched n t w₀ w₁ s y base i m true
+      at-deeper e =
+          says kept-deep
+          (cut-deeper _ _ _ _ _ _ _ _ candidates j (in_list inside) hopeful joined (sym answer-deep ∙ e))
+
+      -- passed over, where neither finds anything
+      pub at_next : isolated_of s z ≡ false → r ≡ false → At n t degrees w₀ s y base i m w₁ (j + 1)
+      at_next e f =
+          passes kept-deep
+          (cut-next _ _ _ _ _ _ _ _ candidates j (in_list inside) hopeful (ap (isolated_of s) (sym with_degree_lem) ∙ e) (sym answer-deep ∙ f))

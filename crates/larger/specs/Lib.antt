@@ -1,3 +1,2 @@
 -- What the search for a larger isolated clique, and the test for being maximal, require and leave behind.
-pub mod Marks
 pub mod Search

@@ -1,15 +1,12 @@
 // The search for a larger isolated clique, and whether a clique is maximal of its kind.
-ghost use Rattle.std.specs.Prelude.{◌≡◌, ◌-◌, ◌<◌, ◌≤◌, length, eqb};
-ghost use Rattle.model.specs.Below.{bit};
+ghost use Rattle.std.specs.Prelude.{◌≡◌, ◌-◌, ◌<◌, ◌≤◌, length};
 ghost use Rattle.theory.specs.Search.{joined_all};
-ghost use Rattle.theory.specs.Marks.{dropped, returned};
 ghost use Rattle.graph.specs.Table.{TableFits, graph_of};
 ghost use Rattle.theory.specs.Parts.{part, HoldsVertices};
-ghost use Rattle.larger.specs.Marks.{MarksFit, AllIn, DropFits, Dropped, ReturnFits, Returned};
-ghost use Rattle.larger.specs.Search.{ReadsLeast, Lowest, SearchFits, Start, FirstFound, Room, Searched, RoomWith, SearchedWith, Posed, Tested};
+ghost use Rattle.larger.specs.Search.{SearchFits, Room, Searched, Posed, Tested};
 
 use graph::{degree_at, entry_at};
-use isolation::{Settings, Tally, hopeless, isolated_by, smaller, with_member};
+use isolation::{Settings, Tally, hopeless, isolated_by, with_member};
 
 // Whether v is joined to each vertex in entries from to to - 1 of work, in the graph on n vertices that the table holds. Reads v's row at these
 // vertices, up to the first that is not joined.
@@ -28,143 +25,11 @@ pub fn joined_to_all(table: &[u8], n: usize, work: &[u16], v: usize, from: usize
     true
 }
 
-// The first way down: goes through the m candidates of part 3 of work once and adds each that is joined to those added so far to the members, which have the
-// numbers y. Whether a set on this way is isolated, which is often so and found at little cost; a no says nothing. Given up where no larger set can be
-// isolated. Reads the table and the degrees; writes those added where the candidates' marks will stand, the first m entries of part 4.
-fn first_way(
-    table: &[u8],
-    degrees: &[u16],
-    work: &mut [u16],
-    n: usize,
-    s: Settings,
-    y: Tally,
-    m: usize,
-) -> bool
-    requires { SearchFits n table.now degrees.now work.old × Start n work.old s y m }
-    ensures { FirstFound n table.now work.old work.new s y m result }
-{
-    let first = 4 * n;
-    let mut end = first;
-    let mut z = y;
-    let mut j = 0;
-    while j < m {
-        if hopeless(s, z, m - j, 0) {
-            return false;
-        }
-        let v = entry_at(work, 3 * n + j);
-        j += 1;
-        if joined_to_all(table, n, work, v, first, end) {
-            let d = degree_at(degrees, n, v);
-            z = with_member(z, d);
-            if isolated_by(s, z) {
-                return true;
-            }
-            work[end] = v as u16;
-            end += 1;
-        }
-    }
-    false
-}
-
-// The mark of a candidate once a member is added at the depth: a candidate that is still in and not joined to the member drops out there.
-fn dropped(depth: u16, joined: bool, mark: u16) -> u16
-    ensures { result ≡ dropped depth joined mark }
-{
-    if joined {
-        return mark;
-    }
-    if mark == 0 { depth } else { mark }
-}
-
-// The mark of a candidate once the search returns from the depth: a candidate that dropped out there is in again.
-fn returned(depth: u16, mark: u16) -> u16
-    ensures { result ≡ returned depth mark }
-{
-    if mark == depth { 0 } else { mark }
-}
-
-// 1 where the mark is that of a candidate that is still in, else 0.
-fn one_in(mark: u16) -> usize
-    ensures { result ≡ bit (eqb mark 0) }
-{
-    if mark == 0 { 1 } else { 0 }
-}
-
-// Sets the marks of the m candidates to 0: all are in. Writes the first m entries of part 4 of work.
-fn clear_marks(work: &mut [u16], n: usize, m: usize)
-    requires { MarksFit n work.old 0 0 m }
-    ensures { AllIn n work.old work.new m }
-{
-    let mut j = 0;
-    while j < m {
-        work[4 * n + j] = 0;
-        j += 1;
-    }
-}
-
-// A number that no degree of the m candidates is below, here the least of them. Reads the first m entries of part 3 of work and the degrees of these vertices.
-fn least_degree(degrees: &[u16], work: &[u16], n: usize, m: usize) -> usize
-    requires { ReadsLeast n degrees.now work.now m }
-    ensures { Lowest n degrees.now work.now m result }
-{
-    let mut low: usize = 65535;
-    let mut j = 0;
-    while j < m {
-        let v = entry_at(work, 3 * n + j);
-        let d = degree_at(degrees, n, v);
-        low = smaller(low, d);
-        j += 1;
-    }
-    low
-}
-
-// Adds the member v at the depth: marks with it each of the candidates i to m - 1 that is still in and not joined to v, and says how many of them are still
-// in. Reads v's row of the table at these candidates; writes their marks, which are entries of part 4 of work.
-fn drop_out(
-    table: &[u8],
-    work: &mut [u16],
-    n: usize,
-    v: usize,
-    depth: usize,
-    i: usize,
-    m: usize,
-) -> usize
-    requires { DropFits n table.now work.old v depth i m }
-    ensures { Dropped n table.now work.old work.new v depth i m result }
-{
-    let mark = depth as u16;
-    let mut left: usize = 0;
-    let mut j = i;
-    while j < m {
-        let u = entry_at(work, 3 * n + j);
-        let joined = graph::joined(table, n, v, u);
-        let after = dropped(mark, joined, work[4 * n + j]);
-        work[4 * n + j] = after;
-        left += one_in(after);
-        j += 1;
-    }
-    left
-}
-
-// Returns from the depth: brings back exactly those of the m candidates that dropped out there, none of which stands before place i, and keeps every other
-// mark (`BringsBack`, with the law `brings_back_exactly`). Nothing is copied. Writes the marks of candidates i to m - 1, which are entries of part 4 of work.
-fn bring_back(work: &mut [u16], n: usize, depth: usize, i: usize, m: usize)
-    requires { ReturnFits n work.old depth i m }
-    ensures { Returned n work.old work.new depth i m }
-{
-    let mark = depth as u16;
-    let mut j = i;
-    while j < m {
-        let after = returned(mark, work[4 * n + j]);
-        work[4 * n + j] = after;
-        j += 1;
-    }
-}
-
-// Searches for a larger isolated clique than that of the members, which have the numbers y: with some of those among the candidates i to m - 1 of part 3 of
-// work that are still in, of which there are `left`, none of a degree below low. Each is tried in turn as the next member, with the candidates
-// after it: the candidates left fall. Reads the table and the degrees; writes the marks of the candidates, and leaves them as they were where it answers no.
-#[cycle(search_search_with)]
+// Searches for a larger isolated clique. The members, with the numbers y, stand in part 1 of work; those from place base on were added by the
+// search, and candidates i to m - 1 of part 3 are left. A candidate that is joined to those added is added, and the candidates after it are
+// searched; else, and after that, it is passed over. Reads the table and the degrees; writes part 1 of work past the members.
+// Documents 000, section 3.2, and 002, section 2.2.3, screen under max without it, by a clique of x + 1 common neighbours of degree at most size + c + x; that drops groups that
+// are maximal, since x + 2 are needed, so the larger set's own isolation test decides here.
 fn search(
     table: &[u8],
     degrees: &[u16],
@@ -172,26 +37,30 @@ fn search(
     n: usize,
     s: Settings,
     y: Tally,
-    low: usize,
+    base: usize,
     i: usize,
     m: usize,
-    left: usize,
 ) -> bool
-    requires { SearchFits n table.now degrees.now work.old × Room n work.old s y low i m left }
-    ensures { Searched n table.now work.old work.new s y low i m result }
+    requires { SearchFits n table.now degrees.now work.old × Room n work.old s y base i m }
+    ensures { Searched n table.now work.old work.new s y base i m result }
 {
-    let mut still = left;
+    let first = n + base;
+    let end = n + y.members;
     let mut j = i;
     while j < m {
-        let place = j;
+        if hopeless(s, y, m - j) {
+            return false;
+        }
+        let v = entry_at(work, 3 * n + j);
         j += 1;
-        if entry_at(work, 4 * n + place) == 0 {
-            if hopeless(s, y, still, low) {
-                return false;
+        if joined_to_all(table, n, work, v, first, end) {
+            let d = degree_at(degrees, n, v);
+            let z = with_member(y, d);
+            if isolated_by(s, z) {
+                return true;
             }
-            let v = entry_at(work, 3 * n + place);
-            still -= 1;
-            if search_with(table, degrees, work, n, s, y, low, v, j, m, still) {
+            work[end] = v as u16;
+            if search(table, degrees, work, n, s, z, base, j, m) {
                 return true;
             }
         }
@@ -199,48 +68,10 @@ fn search(
     false
 }
 
-// The same with v added to the members, which is the candidate right before place i: the set with v may be isolated, or a larger one with some of the
-// candidates i to m - 1. Those that are not joined to v drop out for the search among them, and a return brings them back.
-// Documents 000, section 3.2, and 002, section 2.2.3, screen under max without a search, by a clique of x + 1 common neighbours of degree at most size + c + x; that drops groups
-// that are maximal, since x + 2 are needed, so the larger set's own isolation test decides here.
-#[cycle(search_search_with)]
-fn search_with(
-    table: &[u8],
-    degrees: &[u16],
-    work: &mut [u16],
-    n: usize,
-    s: Settings,
-    y: Tally,
-    low: usize,
-    v: usize,
-    i: usize,
-    m: usize,
-    left: usize,
-) -> bool
-    requires { SearchFits n table.now degrees.now work.old × RoomWith n work.old s y low v i m left }
-    ensures { SearchedWith n table.now work.old work.new s y low v i m result }
-{
-    let d = degree_at(degrees, n, v);
-    let z = with_member(y, d);
-    if isolated_by(s, z) {
-        return true;
-    }
-    if hopeless(s, z, left, low) {
-        return false;
-    }
-    let depth = z.members;
-    let kept = drop_out(table, work, n, v, depth, i, m);
-    if search(table, degrees, work, n, s, z, low, i, m, kept) {
-        return true;
-    }
-    bring_back(work, n, depth, i, m);
-    false
-}
-
 // Whether a clique with the numbers y is not maximal of its kind, where the first m entries of part 3 of work are its common neighbours. Document 002,
 // definition 2 (kind 0): a larger isolated clique is searched for under avg and max; definition 1 (kind 1): a larger clique, so a common neighbour
-// decides, and under min it decides for both kinds (section 2.1). Reads the table and the degrees; writes the first m entries of part 4
-// of work, the candidates' marks, alone.
+// decides, and under min it decides for both kinds (section 2.1). Reads the table and the degrees; writes part 1 of work past the
+// members, whose entries it does not read.
 pub fn beaten(
     table: &[u8],
     degrees: &[u16],
@@ -259,10 +90,5 @@ pub fn beaten(
     if s.notion == 0 {
         return 0 < m;
     }
-    if first_way(table, degrees, work, n, s, y, m) {
-        return true;
-    }
-    let low = least_degree(degrees, work, n, m);
-    clear_marks(work, n, m);
-    search(table, degrees, work, n, s, y, low, 0, m, m)
+    search(table, degrees, work, n, s, y, y.members, 0, m)
 }

@@ -96,7 +96,7 @@ module _ {n : ℕ} {t order w₀ : List ℕ} {taken left : ℕ} (a : Sifts n t o
             ∙ joined_of_push (graph_of n t) us (take j lefts) (get_or lefts j 0)
             ∙ ap (λ (u : ℕ). sifted n t w₀ taken left j ++ cond (joined_all (graph_of n t) u us) (u ∷ []) []) (sym vertex-listed)
             ∙ ap (λ (c : Bool). sifted n t w₀ taken left j ++ cond c (v ∷ []) [])
-            (ap (joined_all (graph_of n t) v) (sym (same-members (kept-state s.kept (omega arith) a.few-taken))) ∙ sym e)
+            (ap (joined_all (graph_of n t) v) (sym (same-members (kept-state s.kept a.few-taken))) ∙ sym e)
 
         -- it is written where it is joined to all, and else passed over
         pub sifted_hit : m ≤ j → true ≡ joined_all (graph_of n t) v (part w n (n + taken - n))

@@ -24,7 +24,7 @@ use Rattle.isolation.specs.declared.Tally.{Tally}
 use Rattle.isolation.specs.Numbers.{settings_of, isolated_of, beaten_of, TallyOf}
 use Rattle.theory.specs.Parts.{part, StateKept}
 use Rattle.larger.specs.Search.{SearchFits, Posed, Tested}
-use Rattle.theory.proofs.Basics.Parts.{state_then, kept-state}
+use Rattle.theory.proofs.Basics.Parts.{state_then}
 use Rattle.graph.specs.Table.{graph_of}
 use Rattle.state.specs.declared.State.{State}
 use Rattle.state.specs.State.{taken_ranks, left_ranks, Stands}
@@ -231,4 +231,4 @@ module _ {n : ℕ} {t degrees order w : List ℕ} {q : Settings} {s : State} (a 
             }
           where
             kept : StateKept n s.taken w w₂
-            kept = state_then f.found.kept (kept-state x.kept (omega arith) taken-few) (omega arith)
+            kept = state_then f.found.kept x.kept (let k = ap (λ (z : Tally). z.members) e in omega arith)

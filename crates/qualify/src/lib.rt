@@ -60,8 +60,8 @@ fn numbers(s: State, degrees: &[u16], work: &[u16], n: usize) -> Tally
     }
 }
 
-// Whether all ranks are decided and the taken set qualifies, of the position that the state and the work slice stand for. Writes parts 3 and 4 of
-// work.
+// Whether all ranks are decided and the taken set qualifies, of the position that the state and the work slice stand for. Writes part 3 of work, and part 1
+// past the taken vertices.
 // The notions are document 002's, section 2.1; kind 0 is its definition 2 (maximal isolated) and kind 1 its definition 1 (isolated maximal).
 // A larger set is searched for, not screened by degree as in documents 000, section 3.2, and 002, section 2.2.3: that test is one vertex too
 // generous, and in a star with three leaves at factor 2 it discards all three groups (document 01, "Where the papers tempt").
@@ -95,11 +95,5 @@ pub fn qualifies(
         return false;
     }
     let m = candidates(table, order, work, n, k, left);
-    // Handed on as copies made here: the page's loop then keeps its own in registers at every step.
-    let settings = Settings {
-        notion: q.notion,
-        kind: q.kind,
-        factor: q.factor,
-    };
-    !beaten(&table[..], &degrees[..], work, n, settings, y, m)
+    !beaten(table, degrees, work, n, q, y, m)
 }

@@ -41,7 +41,7 @@ fn query_refusal(
 }
 
 // Whether the set qualifies, where the call is not refused: document 002, definitions 1 and 2, a clique that is
-// isolated and that no larger one of its kind contains. Reads the table, the degrees and the set; writes parts 1, 3 and 4 of work.
+// isolated and that no larger one of its kind contains. Reads the table, the degrees and the set; writes parts 1 and 3 of work.
 fn set_qualifies(
     table: &[u8],
     degrees: &[u16],

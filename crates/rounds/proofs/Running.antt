@@ -8,7 +8,6 @@ use mathlib.Core.List.{List}
 use mathlib.Core.Logic.{◌≢◌}
 use native.Mathlib.Omega.{arith}
 use lib.ListN.{length}
-use Rattle.theory.proofs.Basics.Tests.{bit_most}
 use Rattle.model.specs.Walk.{Position, Rules, finished, step, found, page}
 use Rattle.model.specs.Calls.{reply_of}
 use Rattle.emit.specs.declared.Put.{Put}
@@ -17,7 +16,7 @@ use Rattle.rounds.specs.Turn.{Turn}
 use Rattle.rounds.specs.declared.Stop.{Stop}
 use Rattle.rounds.specs.declared.Stop.TheVariants.{Full}
 use Rattle.rounds.specs.Answer.{stop_number, PageReplies, accepted}
-use Rattle.rounds.proofs.Turn.{turn_start, turn_length, turn_step, turn_full}
+use Rattle.rounds.proofs.Turn.{bit_le, turn_start, turn_length, turn_step, turn_full}
 
 -- between two rounds
 pub record Running {S : Type 0} (R : Rules) (Holds : S → Position → List ℕ → Type 0) (budget : ℕ) (p₀ : Position) (out₀ w₀ : List ℕ) (p : Position) (out w : List ℕ) (s : S)
@@ -55,7 +54,7 @@ module _ {S : Type 0} {R : Rules} {Holds : S → Position → List ℕ → Type 
       pub groups-within : groups + put.groups ≤ budget
       groups-within =
           let g = at.groups fits in
-          let b = bit_most (found R p) in
+          let b = bit_le (found R p) in
           let f = r.turn.groups-fit in
           let m = more unspent in
           omega arith

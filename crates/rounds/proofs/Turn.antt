@@ -9,7 +9,6 @@ use native.Mathlib.Nat.{zero-add, add-zero, add_assoc}
 use native.Mathlib.Omega.{arith}
 use lib.ListN.{length, take, drop, length-append, length-drop}
 use lib.Seq.{take_at, drop_at, drop-drop}
-use Rattle.theory.proofs.Basics.Tests.{bit_most}
 use Rattle.model.specs.Below.{bit}
 use Rattle.model.specs.Walk.{Position, Rules, Page, halt, onward, finished, step, found, due, page}
 use Rattle.model.specs.Calls.{reply_of}
@@ -34,6 +33,10 @@ sofar-onward k g h es fs r =
 
 sofar-start : (r : Page) → r ≡ sofar 0 0 [] r
 sofar-start r = rw (zero-add r.groups, zero-add r.steps)
+
+pub bit_le : (b : Bool) → bit b ≤ 1
+bit_le true = omega arith
+bit_le false = omega arith
 
 -- ---- the rounds
 
@@ -86,7 +89,7 @@ module _ {R : Rules} {budget : ℕ} {first : Position} {lent : List ℕ} {k g u 
           output-is = e ∙ ap₂ (λ (x y : List ℕ). x ++ due R p ++ y) head_is (rest-is (length (due R p)));
           used-fits = room;
           steps-fit = omega arith;
-          groups-fit = let b = bit_most (found R p) in let f = t.groups-fit in omega arith;
+          groups-fit = let b = bit_le (found R p) in let f = t.groups-fit in omega arith;
         }
       where
         once : page R (budget - k) (length lent - u) p

@@ -2,9 +2,6 @@
 pub mod Candidates
 pub mod Members
 pub mod Search
-pub mod Marks
 pub mod Steps
 pub mod Cut
-pub mod Marked
-pub mod First
 pub mod Maximal

@@ -1,6 +1,5 @@
 -- How code computes what the definitions of crate model say.
 pub mod Parts
 pub mod Search
-pub mod Marks
 pub mod Replies
 pub mod Printed

@@ -56,45 +56,32 @@ unfoldable pub joined_all : Graph → ℕ → List ℕ → Bool
 joined_all G v [] = true
 joined_all G v (u ∷ us) = let rest = joined_all G v us in G.joined v u && rest
 
--- a degree that none of x further members of a clique of k is below: none is below low, and each is joined to the other k + x - 1
-abbrev pub further_degree : ℕ → ℕ → ℕ → ℕ
-further_degree low k x = max low (k + x - 1)
-
--- the numbers of a clique with x further members of that degree, the least degree left as it is, pass the isolation test
-abbrev pub isolated_grown : ℕ → Factor → ℕ → ℕ → ℕ → ℕ → ℕ → ℕ → Bool
-isolated_grown notion c low x k sum least largest =
-    isolated_by notion c (k + x) (sum + x * further_degree low k x) least (max largest (further_degree low k x))
-
--- No clique of these k members with at least one and at most r further ones, each of degree low or more, is isolated. Under avg the bound on the sum of the
--- degrees is convex in the number of members, so that the two ends decide; under max the largest degree does not fall, and r more members are best. Under min
--- nothing is said.
-unfoldable pub hopeless : ℕ → Factor → ℕ → ℕ → ℕ → ℕ → ℕ → ℕ → Bool
-hopeless zero c low r k sum least largest = false
-hopeless (suc m) c low r k sum least largest =
-    eqb r 0
-    || (not (isolated_grown (suc m) c low r k sum least largest) && not (isolated_grown (suc m) c low 1 k sum least largest))
+-- No superset of k members within r further candidates is isolated: each of the k loses at most k + r - 1 of its degree to the set, and a further
+-- member's outside count is at least 0. Under min nothing is said.
+unfoldable pub hopeless : ℕ → Factor → ℕ → ℕ → ℕ → ℕ → Bool
+hopeless zero c k r sum largest = false
+hopeless (suc zero) c k r sum largest = not (within c (k + r) (sum - k * (k + r - 1)))
+hopeless (suc (suc m)) c k r sum largest = not (within c 1 (largest - (k + r - 1)))
 
 -- Document 01, "Forms to follow in each place": the recursive search over common neighbours for a larger isolated clique, the candidates left falling. A candidate is added
--- where it is joined to those added so far, or passed over. k, sum, least and largest are of the members with those added.
-unfoldable pub find_larger : Graph → ℕ → Factor → List ℕ → ℕ → ℕ → ℕ → ℕ → List ℕ → Bool
-find_larger G notion c added k sum least largest [] = false
-find_larger G notion c added k sum least largest (v ∷ vs) =
+-- where it is joined to those added so far, or passed over. k, sum, least and largest are of the members with those added. A branch is left where the test
+-- says so, of k, the number of candidates left, sum and largest.
+unfoldable pub find : (ℕ → ℕ → ℕ → ℕ → Bool) → Graph → ℕ → Factor → List ℕ → ℕ → ℕ → ℕ → ℕ → List ℕ → Bool
+find leaves G notion c added k sum least largest [] = false
+find leaves G notion c added k sum least largest (v ∷ vs) =
     let d = degree G v in
     let here = isolated_by notion c (k + 1) (sum + d) (min least d) (max largest d) in
-    let deeper = find_larger G notion c (added ++ (v ∷ [])) (k + 1) (sum + d) (min least d) (max largest d) vs in
-    let rest = find_larger G notion c added k sum least largest vs in
-    (joined_all G v added && (here || deeper)) || rest
+    let deeper = find leaves G notion c (added ++ (v ∷ [])) (k + 1) (sum + d) (min least d) (max largest d) vs in
+    let rest = find leaves G notion c added k sum least largest vs in
+    not (leaves k (length (v ∷ vs)) sum largest) && ((joined_all G v added && (here || deeper)) || rest)
 
--- The first way down: each candidate that is joined to those added so far is added, none is passed over otherwise; whether a set on this way is isolated.
--- It is given up where it is hopeless, no candidate's degree being below low.
-unfoldable pub find_first : Graph → ℕ → Factor → ℕ → List ℕ → ℕ → ℕ → ℕ → ℕ → List ℕ → Bool
-find_first G notion c low added k sum least largest [] = false
-find_first G notion c low added k sum least largest (v ∷ vs) =
-    let d = degree G v in
-    let here = isolated_by notion c (k + 1) (sum + d) (min least d) (max largest d) in
-    let deeper = find_first G notion c low (added ++ (v ∷ [])) (k + 1) (sum + d) (min least d) (max largest d) vs in
-    let rest = find_first G notion c low added k sum least largest vs in
-    not (hopeless notion c low (length (v ∷ vs)) k sum least largest) && cond (joined_all G v added) (here || deeper) rest
+-- the search that leaves no branch
+abbrev pub find_larger : Graph → ℕ → Factor → List ℕ → ℕ → ℕ → ℕ → ℕ → List ℕ → Bool
+find_larger = find (λ k r sum largest. false)
+
+-- the search that leaves a hopeless branch
+abbrev pub findCut : Graph → ℕ → Factor → List ℕ → ℕ → ℕ → ℕ → ℕ → List ℕ → Bool
+findCut G notion c = find (hopeless notion c) G notion c
 
 -- v stands in the list
 abbrev pub Listed : ℕ → List ℕ → Type 0

@@ -32,7 +32,7 @@ loop-again : tie.Need-loop-preserved invariant-loop decreases-loop
 loop-again c =
     let b = c.before.before.before.before.before.before.before in
     let l = c.before.before.before.before.loop in
-    let same = same-members (kept-state l.invariant.2.kept (omega arith) b.requires.1.few) in
+    let same = same-members (kept-state l.invariant.2.kept b.requires.1.few) in
     let e = ap (joined_all (graph_of b.args.n b.args.table.now) l.v) (sym same) ∙ sym c.before.joined-to-all.ensures in
     ⊎_elim
     (λ w. (omega arith, omega arith, filled_same w.1 w.2 (filled_push _ _ _ l.invariant.2 _ _ (passing-hit _ _ (e ∙ w.0.taken)) (omega arith) (omega arith))))

@@ -104,7 +104,7 @@ gather_bounds R op new old start (suc n) S f i h e =
     deeper false r = r
 
 -- where g is f and d for each member, the sum of g is that of f and d for each
-gather_shift : (n d : ℕ) (S : VertexSet) (f g : ℕ → ℕ) → ((i : ℕ) → i < n → S i ≡ true → f i + d ≡ g i)
+pub gather_shift : (n d : ℕ) (S : VertexSet) (f g : ℕ → ℕ) → ((i : ℕ) → i < n → S i ≡ true → f i + d ≡ g i)
     → total n (λ i. cond (S i) (f i) 0) + count n S * d ≡ gather ◌+◌ 0 n S g
 unfolding total count gather
 gather_shift zero d S f g e = omega arith

@@ -2,16 +2,15 @@
 -- Assumes nothing.
 use Prim.Native.Nat.{ℕ, zero, suc, ◌+◌, ◌<◌, min, max}
 use mathlib.Core.Path.{◌≡◌, refl, sym, ap, ◌∙◌}
-use mathlib.Core.Bool.{Bool, true, false, ◌&&◌, ◌||◌, not, cond, false≢true, true≢false}
+use mathlib.Core.Bool.{Bool, true, false, ◌&&◌, ◌||◌, false≢true, true≢false}
 use mathlib.Core.List.{List, [], ◌∷◌, ◌++◌}
 use mathlib.Core.Logic.{◌⊎◌, inl, inr, ⊎_elim}
 use native.Mathlib.Omega.{arith}
-use lib.ListN.{length}
 use Rattle.model.specs.Graph.{Graph, degree}
 use Rattle.model.specs.Groups.{Factor, VertexSet, isolated, larger, with_vertex, isolated_clique, some_larger, rival}
 use Rattle.model.specs.Meaning.{In, Clique, Isolated, IsolatedClique, Larger, Loopless, Symmetric}
-use Rattle.theory.specs.Search.{JoinsAll, Tally, isolated_by, joined_all, hopeless, find_larger, find_first, Listed, Candidates}
-use Rattle.theory.proofs.Basics.Tests.{Test, test_agree, test_and, test_or, test_self, and_right, passes_or_fails}
+use Rattle.theory.specs.Search.{JoinsAll, Tally, isolated_by, joined_all, find, find_larger, Listed, Candidates}
+use Rattle.theory.proofs.Basics.Tests.{Test, test_agree, test_and, test_or, test_self, passes_or_fails}
 use Rattle.theory.proofs.Graph.Meaning.{isolated_test, larger_test, isolated-same, rivals, rivals_test}
 use Rattle.theory.proofs.Graph.Cliques.{with_test, same-vertex, joins_new, joins-larger, further-joins, further-common}
 use Rattle.theory.proofs.Graph.Degrees.{isolated-tally}
@@ -30,7 +29,7 @@ Finds G notion c vs = (T : VertexSet) (added : List ℕ) (k sum least largest : 
     → Test (find_larger G notion c added k sum least largest vs) (Beyond G notion c T vs)
 
 finds_none : (G : Graph) (notion : ℕ) (c : Factor) → Finds G notion c []
-unfolding Finds find_larger
+unfolding Finds find
 finds_none G notion c T added k sum least largest r = (
   λ e. absurd (false≢true e),
   λ b. absurd (none b (b.listed b.exceeds.further.0 b.exceeds.further.1)),
@@ -193,7 +192,7 @@ module _ (G : Graph) (loopless : Loopless G) (symmetric : Symmetric G) (notion :
             inl (joins.1 j, add e j (passes_or_fails (larger G b.set more)))
 
     finds_step : Test (find_larger G notion c added k sum least largest (v ∷ vs)) (Beyond G notion c T (v ∷ vs))
-    unfolding find_larger here deeper
+    unfolding find here deeper
     finds_step = (λ e. finds_there (ways.0 e), λ b. ways.1 (finds_back b))
       where
         ways : Test ((joined_all G v added && (here || deeper)) || find_larger G notion c added k sum least largest vs)
@@ -220,19 +219,3 @@ module _ (G : Graph) (loopless : Loopless G) (symmetric : Symmetric G) (notion :
         place : (L : VertexSet) → Larger G L S → IsolatedClique G notion c L → (w : ℕ) → In G L w → (S w ≡ true) ⊎ (S w ≡ false) → (S w ≡ true) ⊎ Listed w vs
         place L l i w h (inl e) = inl e
         place L l i w h (inr e) = inr (A.complete w h.0 (further-common G S L i.clique l.contains w h e))
-
--- what the first way down finds the search finds
-pub first_finds : (G : Graph) (notion : ℕ) (c : Factor) (low : ℕ) (added : List ℕ) (k sum least largest : ℕ) (vs : List ℕ)
-    → find_first G notion c low added k sum least largest vs ≡ true → find_larger G notion c added k sum least largest vs ≡ true
-unfolding find_first find_larger
-first_finds G notion c low added k sum least largest [] e = e
-first_finds G notion c low added k sum least largest (v ∷ vs) e =
-    go (joined_all G v added) (isolated_by notion c (k + 1) (sum + degree G v) (min least (degree G v)) (max largest (degree G v)))
-    (first_finds G notion c low (added ++ (v ∷ [])) _ _ _ _ vs) (first_finds G notion c low added k sum least largest vs)
-    (and_right (not (hopeless notion c low (length (v ∷ vs)) k sum least largest)) _ e)
-  where
-    go : (a here : Bool) {first deeper passed rest : Bool} → (first ≡ true → deeper ≡ true) → (passed ≡ true → rest ≡ true)
-        → cond a (here || first) passed ≡ true → ((a && (here || deeper)) || rest) ≡ true
-    go true true d r e = refl
-    go true false {rest = rest} d r e = ap (λ (b : Bool). b || rest) (d e)
-    go false here d r e = r e
