@@ -1,4 +1,6 @@
 // The settings of a call, and the isolation test over a set's numbers.
+#![tactic(auto)]
+
 ghost use Rattle.std.specs.Prelude.{◌≡◌, ◌+◌, ◌-◌, ◌≤◌, min, max};
 ghost use Rattle.model.specs.Groups.{within};
 ghost use Rattle.model.specs.Calls.{refuse_settings};

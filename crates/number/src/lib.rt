@@ -1,4 +1,6 @@
 // Fields and numbers of document 01, in the lines of the text and in the program's words.
+#![tactic(auto)]
+
 pub mod scan;
 
 ghost use Rattle.std.specs.Prelude.{◌≡◌, ◌<◌, length};

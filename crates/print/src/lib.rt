@@ -1,4 +1,6 @@
 // The printed bytes: numbers in decimal, a line for each group, the end line and the refusal line, each put into a buffer.
+#![tactic(auto)]
+
 ghost use Rattle.std.specs.Prelude.{◌≡◌, cond, ◌+◌, ◌*◌, ◌≤◌, length, eqb};
 ghost use Rattle.model.specs.Program.{numeral, end_line, refused_line};
 ghost use Rattle.theory.specs.Printed.{printed};

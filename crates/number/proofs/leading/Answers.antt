@@ -9,13 +9,11 @@ use native.Mathlib.Nat.{eq-or-lt_of_le}
 use native.Mathlib.Omega.{arith}
 use lib.ListN.{length, get_or, take}
 use lib.Seq.{length-take-le, get_or-take}
-use borrow.Author.Rules.{rules}
 use Rattle.model.specs.Text.{digits}
 use Rattle.number.specs.declared.Lead.{Lead}
 use Rattle.number.specs.Field.{DigitsLead, NumberLeads}
 use Rattle.number.proofs.Numbers.{number-long, number_spoilt, number_leading, number-zero, number_digits, digit-below, digit-above}
-use Rattle.number.proofs.leading.Statement.{statement}
-use Rattle.number.proofs.leading.Tie as tie
+use Rattle.number.proofs.leading.Goals as goal
 
 -- 0 itself
 zero-leads : (s : List ℕ) → 0 < length s → get_or s 0 0 ≡ 48 → NumberLeads s (record { value = 0; count = 1 })
@@ -43,20 +41,14 @@ digits-lead s r d h =
 none-leads : (s : List ℕ) → digits s ≡ false → NumberLeads s (record { value = 0; count = 0 })
 none-leads s e = record { within = omega arith; number = λ q. absurd (omega arith); small = omega arith; whole = λ q. number_spoilt s e }
 
-digits-requires : tie.Need-digits-requires
-digits-requires c κs = search rules
+pub returns-in-48 : goal.returns-in-48
+returns-in-48 c = zero-leads _ c.requires c.in-48.keys1
 
-returns : tie.Need-returns
-returns c = zero-leads _ c.before.before.before.requires c.match.keys1
+pub returns-in-49-to-57 : goal.returns-in-49-to-57
+returns-in-49-to-57 c = digits-lead _ _ c.digits.ensures c.in-48.rest.1
 
-returns-2 : tie.Need-returns-2
-returns-2 c = digits-lead _ _ c.digits.ensures c.before.before.before.match.rest.1
+pub returns-in_default : goal.returns-in_default
+returns-in_default c = none-leads _ (digit-below _ 0 c.requires (omega (arith, c.in-48.rest.1)))
 
-returns-3 : tie.Need-returns-3
-returns-3 c = none-leads _ (digit-below _ 0 c.before.before.before.before.requires (omega (arith, c.before.match.rest.1)))
-
-returns-4 : tie.Need-returns-4
-returns-4 c = none-leads _ (digit-above _ 0 c.before.before.before.before.before.requires c.if2.false)
-
-pub leading-spec : {M : Type 1} → statement M
-leading-spec = tie.close (tie.spec (λ c. search rules) digits-requires returns returns-2 returns-3 returns-4)
+pub returns-in_default-2 : goal.returns-in_default-2
+returns-in_default-2 c = none-leads _ (digit-above _ 0 c.requires c.if-first-lt58.false)

@@ -1,0 +1,27 @@
+-- `number::digits` meets its contract: the bytes so far are digits. Assumes nothing.
+use Prim.Native.Nat.{ℕ, ◌*◌, ◌+◌, ◌^◌, ◌≤◌, ◌<◌, ◌-◌}
+use mathlib.Core.Path.{◌≡◌, sym, ap₂, ◌∙◌}
+use mathlib.Core.Bool.{true, false}
+use mathlib.Core.List.{List}
+use native.Mathlib.Omega.{arith}
+use lib.ListN.{length, get_or, take}
+use Rattle.model.specs.Text.{digits, decimal}
+use Rattle.number.specs.Field.{DigitsLead}
+use Rattle.number.proofs.Numbers.{digit-below, digit-above, spoilt_from, first-digit, first-value, digit-more, value-more, power_more, power_six}
+use Rattle.number.proofs.digits.Given as goal
+
+-- the first i bytes are digits of this value
+abbrev pub Counted : List ℕ → ℕ → ℕ → Type 0
+Counted bytes value i =
+    (0 < i)
+    × (i ≤ 6)
+    × (i ≤ length bytes)
+    × (value < 10 ^ i)
+    × (digits (take i bytes) ≡ true)
+    × (decimal 0 (take i bytes) ≡ value)
+
+abbrev pub invariant-loop-i : goal.invariant-loop-i
+invariant-loop-i l = Counted l.bytes l.value l.i
+
+abbrev pub decreases-loop-i : goal.decreases-loop-i
+decreases-loop-i l = length l.bytes - l.i
