@@ -5,7 +5,7 @@ use mathlib.Core.Path.{sym, ap, ◌∙◌}
 use native.Mathlib.Omega.{arith}
 use lib.ListN.{length-set}
 use Rattle.isolation.specs.declared.Tally.{Tally}
-use Rattle.larger.proofs.Searching.{At, at_start, at_end, at_hopeless, at-apart, Adds, at_here, at-deeper, at_next, candidate-vertex, added-vertices, added-vertex, lent-next, room_next}
+use Rattle.larger.proofs.Searching.{At, at_start, at_end, at_hopeless, at_apart, Adds, at_here, at_deeper, at_next, candidate_vertex, added-vertices, added-vertex, lent-next, room_next}
 use borrow.Fn.Kinds.{In}
 use borrow.Fn.PlainCycle.{Measures, is, falls, and}
 use Rattle.larger.proofs.search.Reads as search'
@@ -78,7 +78,7 @@ search-joined-to-all-requires : (t : ℕ) → search-lts.Need-joined-to-all-requ
 search-joined-to-all-requires t c κs =
     let turn = c.before.before.before.before.before in
     let start = turn.before.before.before.before.before.before in
-    let vertex = candidate-vertex turn.before.loop.invariant turn.loop-test.true c.before.entry_at.ensures in
+    let vertex = candidate_vertex turn.before.loop.invariant turn.loop-test.true c.before.entry_at.ensures in
     let added = added-vertices turn.before.loop.invariant in
     (start.requires.1.0.table, vertex, omega arith, omega arith, λ e h. added e (omega arith))
 
@@ -86,7 +86,7 @@ search-degree-at-requires : (t : ℕ) → search-lts.Need-degree-at-requires (cl
 search-degree-at-requires t c κs =
     let read = c.before.before.before in
     let turn = read.before.before.before.before in
-    (turn.before.before.before.before.before.before.requires.1.0.degrees-fit, candidate-vertex turn.before.loop.invariant turn.loop-test.true read.entry_at.ensures)
+    (turn.before.before.before.before.before.before.requires.1.0.degrees-fit, candidate_vertex turn.before.loop.invariant turn.loop-test.true read.entry_at.ensures)
 
 -- where the numbers with the candidate are known it is added
 adds : (t : ℕ) (c : search-lts.After-with-member (claims t) (search-at t) search'.Post search-Inv-loop search-μ-loop)
@@ -135,7 +135,7 @@ search-same-length-3 t c =
 search-returns-3 : (t : ℕ) → search-lts.Need-returns-3 (claims t) (search-at t) search'.Post search-Inv-loop search-μ-loop
 search-returns-3 t c =
     let deep = c.before.before.before in
-    at-deeper _ (adds t deep.before.before.before.before) deep.search.ensures c.if4.true
+    at_deeper _ (adds t deep.before.before.before.before) deep.search.ensures c.if4.true
 
 search-loop-again : (t : ℕ) → search-lts.Need-loop-preserved (claims t) (search-at t) search'.Post search-Inv-loop search-μ-loop
 search-loop-again t c =
@@ -148,7 +148,7 @@ search-loop-again-2 t c =
     let read = c.before.before.before in
     let hope = read.before.before in
     let turn = hope.before.before in
-    at-apart turn.before.loop.invariant turn.loop-test.true read.entry_at.ensures
+    at_apart turn.before.loop.invariant turn.loop-test.true read.entry_at.ensures
     (sym hope.before.hopeless.ensures ∙ hope.if1.false) (sym c.if2.false ∙ c.before.joined-to-all.ensures)
 
 search-same-length-4 : (t : ℕ) → search-lts.Need-same-length-4 (claims t) (search-at t) search'.Post search-Inv-loop search-μ-loop

@@ -1,7 +1,7 @@
 -- `larger::beaten` meets its contract: a return for each way to decide.
 -- Assumes nothing.
 use mathlib.Core.Path.{refl}
-use Rattle.larger.proofs.Maximal.{posed-room, by_search, by_kind, by_min}
+use Rattle.larger.proofs.Maximal.{posed_room, by_search, by_kind, by_min}
 use Rattle.larger.proofs.beaten.Statement.{statement}
 use Rattle.larger.proofs.beaten.Tie as tie
 
@@ -19,7 +19,7 @@ returns-2 c =
 search-requires : tie.Need-search-requires
 search-requires c κs =
     let start = c.before.before.before.before.before.before.before.before in
-    (start.requires.0, posed-room start.requires.0 start.requires.1)
+    (start.requires.0, posed_room start.requires.0 start.requires.1)
 
 same_length : tie.Need-same-length
 same_length c = c.before.before.search.ensures.kept.state.length-kept
