@@ -29,7 +29,7 @@ pub returns-then-not-joined : goal.returns-then-not-joined
 returns-then-not-joined c =
     let b = c in
     let l = c.loop-i in
-    sym (all_apart _ _ _ _ _ b.requires.2 b.requires.3 l.i l.invariant.0 (omega arith) c.entry_at-u.ensures (sym c.joined.ensures ∙ not-true _ c.if-not-joined.true))
+    sym (all_apart _ _ _ _ _ b.requires.2 b.requires.3 l.i l.invariant.0 (omega arith) c.entry_at-u.ensures (sym c.joined.ensures ∙ c.if-not-joined.true))
 
 pub loop-i-preserved : goal.loop-i-preserved
 loop-i-preserved c =
@@ -37,7 +37,7 @@ loop-i-preserved c =
     let l = c.loop-i in (
       omega arith,
       omega arith,
-      all_more _ _ _ _ _ b.requires.2 b.requires.3 l.i l.invariant.0 (omega arith) l.invariant.2 c.entry_at-u.ensures (sym c.joined.ensures ∙ not-false _ c.if-not-joined.false),
+      all_more _ _ _ _ _ b.requires.2 b.requires.3 l.i l.invariant.0 (omega arith) l.invariant.2 c.entry_at-u.ensures (sym c.joined.ensures ∙ c.if-not-joined.false),
     )
 
 pub returns : goal.returns
