@@ -41,16 +41,14 @@ bounds-work-n c =
 
 pub loop-i-preserved : goal.loop-i-preserved
 loop-i-preserved c =
-    let b = c in
-    let q = b.requires in
-    let n = b.args.n in
-    let o = c in
-    let i = o.loop-i.i in
-    let inv = o.loop-i.invariant in
-    let p = adjacent (graph_of n b.args.table.now) b.args.s.decided in
-    let a = sym (adjacent_by _ b.args.s.decided i (vertex_read q.0 o.vertex_at-v.ensures).0 (vertex_read q.0 c.vertex_at-u.ensures).0) ∙ sym c.joined.ensures in
+    let q = c.requires in
+    let n = c.args.n in
+    let i = c.loop-i.i in
+    let inv = c.loop-i.invariant in
+    let p = adjacent (graph_of n c.args.table.now) c.args.s.decided in
+    let a = sym (adjacent_by _ c.args.s.decided i (vertex_read q.0 c.vertex_at-v.ensures).0 (vertex_read q.0 c.vertex_at-u.ensures).0) ∙ sym c.joined.ensures in
     elim c.if-joined.branch [
-      then-joined y ↦ (omega arith, omega arith, filled_same y.work-is y.m-is (filled_push (2 * n) (3 * n) b.args.work.now inv.2 i _ (passing-hit p i (a ∙ y.if-joined.true)) (omega arith) (omega (arith, q.1.1.room))))
+      then-joined y ↦ (omega arith, omega arith, filled_same y.work-is y.m-is (filled_push (2 * n) (3 * n) c.args.work.now inv.2 i _ (passing-hit p i (a ∙ y.if-joined.true)) (omega arith) (omega (arith, q.1.1.room))))
     | else-joined y ↦ (omega arith, omega arith, filled_same y.work-is y.m-is (filled_pass _ _ _ inv.2 _ (passing_miss p i (a ∙ y.if-joined.false))))
     ]
 

@@ -19,9 +19,8 @@ loop-j-init c = (omega arith, λ i x y. absurd (omega arith))
 
 pub joined-requires : goal.joined-requires
 joined-requires c =
-    let b = c in
-    let l = b.requires.vertices (c.loop-j.j - 1) (omega arith) in
-    (b.requires.fits, omega (arith, c.entry_at-u.ensures), b.requires.vertex)
+    let l = c.requires.vertices (c.loop-j.j - 1) (omega arith) in
+    (c.requires.fits, omega (arith, c.entry_at-u.ensures), c.requires.vertex)
 
 pub returns-then-not-joined : goal.returns-then-not-joined
 returns-then-not-joined c =
