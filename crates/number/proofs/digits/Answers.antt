@@ -1,11 +1,11 @@
 -- `number::digits` meets its contract: the bytes so far are digits. Assumes nothing.
-use Prim.Native.Nat.{ℕ, ◌*◌, ◌+◌, ◌^◌, ◌≤◌, ◌<◌, ◌-◌}
+use Prim.Native.Nat.{ℕ, ◌*◌, ◌+◌, ◌≤◌, ◌<◌}
 use mathlib.Core.Path.{◌≡◌, sym, ap₂, ◌∙◌}
-use mathlib.Core.Bool.{true, false}
+use mathlib.Core.Bool.{false}
 use mathlib.Core.List.{List}
 use native.Mathlib.Omega.{arith}
-use lib.ListN.{length, get_or, take}
-use Rattle.model.specs.Text.{digits, decimal}
+use lib.ListN.{length, get_or}
+use Rattle.model.specs.Text.{digits}
 use Rattle.number.specs.Field.{DigitsLead}
 use Rattle.number.proofs.Numbers.{digit-below, digit-above, spoilt_from, first-digit, first-value, digit-more, value-more, power_more, power_six}
 use Rattle.number.proofs.digits.Goals as goal
@@ -42,12 +42,12 @@ overflow_add-value c =
 pub returns-in_default : goal.returns-in_default
 returns-in_default c =
     let l = c.loop-i in
-    stopped _ _ _ l.invariant (λ h k. spoilt_from _ l.i (digit-below _ l.i k c.if-b-lt48.true))
+    stopped _ _ _ l.invariant (λ h k. spoilt_from _ l.i (digit-below _ l.i k (omega arith)))
 
 pub returns-in_default-2 : goal.returns-in_default-2
 returns-in_default-2 c =
     let l = c.loop-i in
-    stopped _ _ _ l.invariant (λ h k. spoilt_from _ l.i (digit-above _ l.i k c.if-b-lt58.false))
+    stopped _ _ _ l.invariant (λ h k. spoilt_from _ l.i (digit-above _ l.i k (omega arith)))
 
 pub loop-i-preserved : goal.loop-i-preserved
 loop-i-preserved c =
