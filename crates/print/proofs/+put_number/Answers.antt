@@ -1,25 +1,40 @@
-use Rattle.std.proofs.Common.{rules, ◌≡◌, cond, ◌+◌, ◌*◌, ◌≤◌, length, eqb, ℕ, ◌-◌, ◌<◌, ◌/◌, ◌%◌, Bool, true, false, nat_lt, List, [], ◌∷◌, ◌++◌, slice_index_or, slice_set, bit_and, bit_or, Fits, w8, w32, w64, Bor, MutBor}
-use Rattle.model.specs.Program.{numeral, end_line, refused_line}
-use Rattle.theory.specs.Printed.{printed}
-use Rattle.print.specs.Put.{Puts, EntryPut, line}
+-- `print::put_number` meets its contract: the number falls with each call of itself. Assumes nothing.
+use Prim.Native.Nat.{ℕ, ◌+◌, ◌/◌, ◌%◌}
+use mathlib.Core.Path.{sym, ap, ◌∙◌}
+use mathlib.Core.List.{[], ◌∷◌, ◌++◌}
+use native.Mathlib.Omega.{arith}
+use lib.ListN.{length, length-append}
+use Rattle.model.specs.Program.{numeral}
+use Rattle.print.proofs.Puts.{puts_as, puts_one, puts-length, puts-more}
+use Rattle.print.proofs.Numeral.{numeral-digit, numeral-more}
 use Rattle.print.proofs.+put_number.Goals as goal
 
--- src/lib.rt:43:9
 pub bounds-bytes-at : goal.bounds-bytes-at
-bounds-bytes-at t c = ?
+bounds-bytes-at t c = omega (arith, ap length (numeral-digit c.args.k (omega arith)))
 
--- src/lib.rt:44:9
 pub returns-then-k-lt10 : goal.returns-then-k-lt10
-returns-then-k-lt10 t c = ?
+returns-then-k-lt10 t c =
+    let e = numeral-digit c.args.k (omega arith) in
+    puts_as (ap (λ (x : ℕ). x ∷ []) c.digit.ensures ∙ sym e) (puts_one (omega (arith, ap length e)))
 
--- src/lib.rt:46:9
 pub put_number-last-requires : goal.put_number-last-requires
-put_number-last-requires t c = ?
+put_number-last-requires t c =
+    let b = c.args in
+    (omega arith, omega (arith, ap length (numeral-more b.k (omega arith)), length-append (numeral (b.k / 10)) ((48 + b.k % 10) ∷ [])))
 
--- src/lib.rt:47:5
 pub bounds-bytes-last : goal.bounds-bytes-last
-bounds-bytes-last t c = ?
+bounds-bytes-last t c =
+    let p = c.put_number-last.ensures in
+    let b = c.args in
+    let h = p.place in
+    omega (arith, puts-length p, ap length (numeral-more b.k (omega arith)), length-append (numeral (b.k / 10)) ((48 + b.k % 10) ∷ []))
 
--- src/lib.rt:38:1
 pub returns : goal.returns
-returns t c = ?
+returns t c =
+    let b = c.args in
+    let p = c.put_number-last.ensures in
+    let h = p.place in
+    let e = numeral-more b.k (omega arith) in
+    puts_as (ap (λ (x : ℕ). numeral (b.k / 10) ++ (x ∷ [])) c.digit-2.ensures ∙ sym e)
+    (puts-more p c.digit-2.result
+    (omega (arith, puts-length p, ap length e, length-append (numeral (b.k / 10)) ((48 + b.k % 10) ∷ []))))

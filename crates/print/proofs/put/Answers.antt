@@ -1,9 +1,8 @@
 -- `print::put` meets its contract. Assumes nothing.
-use Prim.Native.Nat.{ℕ, ◌+◌, ◌-◌, ◌≤◌}
+use Prim.Native.Nat.{ℕ}
 use mathlib.Core.Path.{subst}
 use mathlib.Core.List.{[]}
 use native.Mathlib.Omega.{arith}
-use lib.ListN.{length, take}
 use Rattle.print.specs.Put.{Puts}
 use Rattle.print.proofs.Puts.{puts_none, puts-length, puts-next, puts_word}
 use Rattle.print.proofs.put.Goals as goal
