@@ -51,9 +51,8 @@ returns-in_default-2 c =
 
 pub loop-i-preserved : goal.loop-i-preserved
 loop-i-preserved c =
-    let l = c in
-    let f = l.args.bytes.now in
-    let i = l.loop-i.i in
+    let f = c.args.bytes.now in
+    let i = c.loop-i.i in
     let h : i < length f = omega arith in
     let low : 48 ≤ get_or f i 0 = omega arith in
     let high : get_or f i 0 ≤ 57 = omega arith in
@@ -61,9 +60,9 @@ loop-i-preserved c =
       omega arith,
       omega arith,
       omega arith,
-      power_more i l.loop-i.value c.wide.result l.loop-i.invariant.3 d,
-      digit-more f i h low high ∙ l.loop-i.invariant.4,
-      value-more f i h ∙ ap₂ (λ (v x : ℕ). v * 10 + x) l.loop-i.invariant.5 (sym c.wide.ensures),
+      power_more i c.loop-i.value c.wide.result c.loop-i.invariant.3 d,
+      digit-more f i h low high ∙ c.loop-i.invariant.4,
+      value-more f i h ∙ ap₂ (λ (v x : ℕ). v * 10 + x) c.loop-i.invariant.5 (sym c.wide.ensures),
     )
 
 pub returns : goal.returns

@@ -15,8 +15,7 @@ put_entry-s-requires c =
 
 pub loop-i-preserved : goal.loop-i-preserved
 loop-i-preserved c =
-    let l = c in
-    so_more l.loop-i.invariant (omega arith) c.put_entry-s.ensures
+    so_more c.loop-i.invariant (omega arith) c.put_entry-s.ensures
 
 pub shape_of-bytes : goal.shape_of-bytes
 shape_of-bytes c = puts-length c.loop-i.invariant.puts

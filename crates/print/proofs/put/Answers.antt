@@ -17,9 +17,8 @@ bounds-bytes-at c = omega (arith, puts-length c.loop-i.invariant.1)
 
 pub loop-i-preserved : goal.loop-i-preserved
 loop-i-preserved c =
-    let l = c in
-    let p = l.loop-i.invariant.1 in
-    (omega arith, puts-next l.args.word.now l.loop-i.i p (omega arith) (omega (arith, puts-length p)))
+    let p = c.loop-i.invariant.1 in
+    (omega arith, puts-next c.args.word.now c.loop-i.i p (omega arith) (omega (arith, puts-length p)))
 
 pub shape_of-bytes : goal.shape_of-bytes
 shape_of-bytes c = puts-length c.loop-i.invariant.1
