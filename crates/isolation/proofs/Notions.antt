@@ -38,9 +38,9 @@ module _ (notion : ℕ) (c : Factor) (k further sum largest : ℕ) where
   hopeless-min e = rw e
 
   module _ {others x : ℕ} {r : Bool} where
-    pub hopeless-avg : notion ≡ 1 → others ≡ k + further - 1 → x ≡ sum - k * others → r ≡ within c (k + further) x → not r ≡ hopeless notion c k further sum largest
+    pub hopeless_avg : notion ≡ 1 → others ≡ k + further - 1 → x ≡ sum - k * others → r ≡ within c (k + further) x → not r ≡ hopeless notion c k further sum largest
     unfolding hopeless
-    hopeless-avg e o d t = rw (e, t, d, o)
+    hopeless_avg e o d t = rw (e, t, d, o)
 
     pub hopeless-max : notion ≢ 0 → notion ≢ 1 → others ≡ k + further - 1 → x ≡ largest - others → r ≡ within c 1 x
         → not r ≡ hopeless notion c k further sum largest

@@ -34,7 +34,7 @@ hopeless_of s t r = search.hopeless s.notion (settings_of s).factor t.members r 
 
 -- the search that leaves a hopeless branch
 abbrev pub find_of : Graph → Settings → List ℕ → Tally → List ℕ → Bool
-find_of G s added t vs = search.findCut G s.notion (settings_of s).factor added t.members t.sum t.least t.largest vs
+find_of G s added t vs = search.find_cut G s.notion (settings_of s).factor added t.members t.sum t.least t.largest vs
 
 -- whether an isolated clique with these numbers and the candidates vs is not maximal
 abbrev pub beaten_of : Graph → Settings → Tally → List ℕ → Bool

@@ -12,7 +12,7 @@ use Rattle.model.specs.Below.{bit, count}
 use Rattle.model.specs.Graph.{Graph, degree}
 use Rattle.model.specs.Groups.{VertexSet, size_of}
 use Rattle.theory.specs.Search.{gather, degree_sum, find_larger, searched, beaten}
-use Rattle.theory.proofs.Search.Cut.{search-cut}
+use Rattle.theory.proofs.Search.Cut.{search_cut}
 use Rattle.graph.proofs.Table.{table-degree}
 use Rattle.isolation.specs.declared.Settings.{Settings}
 use Rattle.isolation.specs.declared.Tally.{Tally}
@@ -68,8 +68,8 @@ module _ {n : ℕ} {t degrees w : List ℕ} {s : Settings} {y : Tally} {m : ℕ}
   all-candidates = let l = lent.parts in let f = posed.room in part_length w (3 * n) m (omega arith)
 
   -- room for a search with nothing added
-  pub posed-room : Room n w s y y.members 0 m
-  posed-room =
+  pub posed_room : Room n w s y y.members 0 m
+  posed_room =
       record {
         factor = posed.factor;
         from = omega arith;
@@ -93,7 +93,7 @@ module _ {n : ℕ} {t degrees w : List ℕ} {s : Settings} {y : Tally} {m : ℕ}
         answer =
             found.answer
             ∙ ap (λ (k : ℕ). find_of (graph_of n t) s (part w (n + y.members) k) y (part w (3 * n) m)) none
-            ∙ search-cut (graph_of n t) posed.loopless posed.symmetric s.notion s.factor posed.set posed.clique (part w (3 * n) m)
+            ∙ search_cut (graph_of n t) posed.loopless posed.symmetric s.notion s.factor posed.set posed.clique (part w (3 * n) m)
             posed.candidates y.members y.sum y.least y.largest posed.tally
             ∙ sym (beaten_search (graph_of n t) s y (part w (3 * n) m) e d);
         kept = found.kept.state;

@@ -12,7 +12,7 @@ use lib.Seq.{get_or-set_same, get_or-set_other}
 use Rattle.model.specs.Graph.{Graph, degree}
 use Rattle.theory.specs.Search.{joined_all}
 use Rattle.theory.proofs.Basics.Tests.{trichotomy}
-use Rattle.theory.proofs.Search.Steps.{cut-end, cut-hopeless, cut_apart, cut-here, cut-deeper, cut-next}
+use Rattle.theory.proofs.Search.Steps.{cut_end, cut-hopeless, cut_apart, cut_here, cut_deeper, cut-next}
 use Rattle.graph.specs.Degrees.{ReadsDegree}
 use Rattle.isolation.specs.declared.Settings.{Settings}
 use Rattle.isolation.specs.declared.Tally.{Tally}
@@ -23,8 +23,8 @@ use Rattle.theory.proofs.Basics.Parts.{part_length, part_at, part_same, part_pus
 use Rattle.graph.specs.Table.{graph_of}
 
 -- those that the search has added, and the candidates
-abbrev pub addedIn : ℕ → List ℕ → Tally → ℕ → List ℕ
-addedIn n w y base = part w (members_at n + base) (y.members - base)
+abbrev pub added_in : ℕ → List ℕ → Tally → ℕ → List ℕ
+added_in n w y base = part w (members_at n + base) (y.members - base)
 
 abbrev pub candidates_in : ℕ → List ℕ → ℕ → List ℕ
 candidates_in n w m = part w (candidates_at n) m
@@ -35,7 +35,7 @@ pub record At (n : ℕ) (t degrees w₀ : List ℕ) (s : Settings) (y : Tally) (
   pub room : Room n w₀ s y base i m
   pub from : i ≤ j
   pub kept : SearchKept n y.members m w₀ w
-  pub same : find_of (graph_of n t) s (addedIn n w₀ y base) y (drop i (candidates_in n w₀ m)) ≡ find_of (graph_of n t) s (addedIn n w₀ y base) y (drop j (candidates_in n w₀ m))
+  pub same : find_of (graph_of n t) s (added_in n w₀ y base) y (drop i (candidates_in n w₀ m)) ≡ find_of (graph_of n t) s (added_in n w₀ y base) y (drop j (candidates_in n w₀ m))
 
 pub at_start : {n : ℕ} {t degrees w₀ : List ℕ} {s : Settings} {y : Tally} {base i m : ℕ} → SearchFits n t degrees w₀ → Room n w₀ s y base i m → At n t degrees w₀ s y base i m w₀ i
 at_start lent room = record { lent = lent; room = room; from = omega arith; kept = record { state = state-none; candidates = λ e h. refl }; same = refl }
@@ -48,7 +48,7 @@ module _ {n : ℕ} {t degrees w₀ : List ℕ} {s : Settings} {y : Tally} {base 
   graph = graph_of n t
 
   abbrev added : List ℕ
-  added = addedIn n w₀ y base
+  added = added_in n w₀ y base
 
   abbrev candidates : List ℕ
   candidates = candidates_in n w₀ m
@@ -71,14 +71,14 @@ module _ {n : ℕ} {t degrees w₀ : List ℕ} {s : Settings} {y : Tally} {base 
 
   -- with no candidate left
   pub at_end : m ≤ j → Searched n t w₀ w s y base i m false
-  at_end h = says at.kept (cut-end _ _ _ _ _ _ _ _ candidates j (let l = all-candidates in omega arith))
+  at_end h = says at.kept (cut_end _ _ _ _ _ _ _ _ candidates j (let l = all-candidates in omega arith))
 
   -- those added still stand where they stood
   same-added : SamePart (n + base) (y.members - base) w₀ w
   same-added e h = rw (add_assoc n base e) (at.kept.state.members (base + e) (omega arith))
 
-  pub still-added : part w (n + base) (n + y.members - (n + base)) ≡ added
-  still-added =
+  pub still_added : part w (n + base) (n + y.members - (n + base)) ≡ added
+  still_added =
       ap (part w (n + base)) shorter
       ∙ part_same w w₀ (n + base) (y.members - base) at.kept.state.length-kept same-added
     where
@@ -104,19 +104,19 @@ module _ {n : ℕ} {t degrees w₀ : List ℕ} {s : Settings} {y : Tally} {base 
       is_candidate : get_or candidates j 0 ≡ v
       is_candidate = part_at w₀ (3 * n) m j inside ∙ sym (read ∙ at.kept.candidates j inside)
 
-      pub candidate-vertex : v < n
-      candidate-vertex = let k = at.kept.candidates j inside in let l = room.candidates j inside in omega arith
+      pub candidate_vertex : v < n
+      candidate_vertex = let k = at.kept.candidates j inside in let l = room.candidates j inside in omega arith
 
       module _ (hope : hopeless_of s y (m - j) ≡ false) where
-        hope-left : hopeless_of s y (length candidates - j) ≡ false
-        hope-left = ap (λ (r : ℕ). hopeless_of s y r) left ∙ hope
+        hope_left : hopeless_of s y (length candidates - j) ≡ false
+        hope_left = ap (λ (r : ℕ). hopeless_of s y r) left ∙ hope
 
         joined_is : (b : Bool) → b ≡ joins-added v → joined_all graph (get_or candidates j 0) added ≡ b
-        joined_is b e = ap (λ (u : ℕ). joined_all graph u added) is_candidate ∙ ap (joined_all graph v) (sym still-added) ∙ sym e
+        joined_is b e = ap (λ (u : ℕ). joined_all graph u added) is_candidate ∙ ap (joined_all graph v) (sym still_added) ∙ sym e
 
         -- passed over, where it is not joined to those added
-        pub at-apart : false ≡ joins-added v → At n t degrees w₀ s y base i m w (j + 1)
-        at-apart e = passes at.kept (cut_apart _ _ _ _ _ _ _ _ candidates j in_list hope-left (joined_is false e))
+        pub at_apart : false ≡ joins-added v → At n t degrees w₀ s y base i m w (j + 1)
+        at_apart e = passes at.kept (cut_apart _ _ _ _ _ _ _ _ candidates j in_list hope_left (joined_is false e))
 
   -- candidate j, read as v and of degree d, is added: it is there, a set with the candidates left may be isolated, it is joined to those added, and z has
   -- the numbers with it
@@ -133,7 +133,7 @@ module _ {n : ℕ} {t degrees w₀ : List ℕ} {s : Settings} {y : Tally} {base 
     inside = adds.inside
 
     pub added-vertex : v < n
-    added-vertex = candidate-vertex inside adds.read
+    added-vertex = candidate_vertex inside adds.read
 
     degree-is : (d ≡ degree graph v) × (d ≤ n)
     degree-is = adds.degree.degree graph refl at.lent.degrees
@@ -142,7 +142,7 @@ module _ {n : ℕ} {t degrees w₀ : List ℕ} {s : Settings} {y : Tally} {base 
     with_degree_lem = adds.more ∙ ap (with_member y) (degree-is.0 ∙ ap (degree graph) (sym (is_candidate inside adds.read)))
 
     hopeful : hopeless_of s y (length candidates - j) ≡ false
-    hopeful = hope-left inside adds.read adds.hope
+    hopeful = hope_left inside adds.read adds.hope
 
     joined : joined_all graph (get_or candidates j 0) added ≡ true
     joined = joined_is inside adds.read adds.hope true adds.joins
@@ -151,7 +151,7 @@ module _ {n : ℕ} {t degrees w₀ : List ℕ} {s : Settings} {y : Tally} {base 
     pub at_here : true ≡ isolated_of s z → Searched n t w₀ w s y base i m true
     at_here e =
         says at.kept
-        (cut-here _ _ _ _ _ _ _ _ candidates j (in_list inside) hopeful joined (ap (isolated_of s) (sym with_degree_lem) ∙ sym e))
+        (cut_here _ _ _ _ _ _ _ _ candidates j (in_list inside) hopeful joined (ap (isolated_of s) (sym with_degree_lem) ∙ sym e))
 
     -- the slice with it added, for the candidates after it
     abbrev taken : List ℕ
@@ -205,8 +205,8 @@ module _ {n : ℕ} {t degrees w₀ : List ℕ} {s : Settings} {y : Tally} {base 
             }
 
     module _ {w₁ : List ℕ} {r : Bool} (deep : Searched n t taken w₁ s z base (j + 1) m r) where
-      kept-deep : SearchKept n y.members m w₀ w₁
-      kept-deep =
+      kept_deep : SearchKept n y.members m w₀ w₁
+      kept_deep =
           record {
             state = state_then taken-kept.state deep.kept.state (let e = ap (λ (x : Tally). x.members) adds.more in omega arith);
             candidates = λ e h. deep.kept.candidates e h ∙ taken-kept.candidates e h;
@@ -227,8 +227,8 @@ module _ {n : ℕ} {t degrees w₀ : List ℕ} {s : Settings} {y : Tally} {base 
           place : n + base + (y.members - base) ≡ n + y.members
           place = omega arith
 
-      answer-deep : r ≡ find_of graph s (added ++ (get_or candidates j 0 ∷ [])) (with_member y (degree graph (get_or candidates j 0))) (drop (j + 1) candidates)
-      answer-deep =
+      answer_deep : r ≡ find_of graph s (added ++ (get_or candidates j 0 ∷ [])) (with_member y (degree graph (get_or candidates j 0))) (drop (j + 1) candidates)
+      answer_deep =
           deep.answer
           ∙ ap (λ (l : List ℕ). find_of graph s l z (drop (j + 1) (candidates_in n taken m))) pushed
           ∙ ap (λ (x : Tally). find_of graph s (added ++ (get_or candidates j 0 ∷ [])) x (drop (j + 1) (candidates_in n taken m))) with_degree_lem
@@ -236,13 +236,13 @@ module _ {n : ℕ} {t degrees w₀ : List ℕ} {s : Settings} {y : Tally} {base 
           (part_same taken w₀ (3 * n) m taken-kept.state.length-kept taken-kept.candidates)
 
       -- found with it and more
-      pub at-deeper : r ≡ true → Searched n t w₀ w₁ s y base i m true
-      at-deeper e =
-          says kept-deep
-          (cut-deeper _ _ _ _ _ _ _ _ candidates j (in_list inside) hopeful joined (sym answer-deep ∙ e))
+      pub at_deeper : r ≡ true → Searched n t w₀ w₁ s y base i m true
+      at_deeper e =
+          says kept_deep
+          (cut_deeper _ _ _ _ _ _ _ _ candidates j (in_list inside) hopeful joined (sym answer_deep ∙ e))
 
       -- passed over, where neither finds anything
       pub at_next : isolated_of s z ≡ false → r ≡ false → At n t degrees w₀ s y base i m w₁ (j + 1)
       at_next e f =
-          passes kept-deep
-          (cut-next _ _ _ _ _ _ _ _ candidates j (in_list inside) hopeful (ap (isolated_of s) (sym with_degree_lem) ∙ e) (sym answer-deep ∙ f))
+          passes kept_deep
+          (cut-next _ _ _ _ _ _ _ _ candidates j (in_list inside) hopeful (ap (isolated_of s) (sym with_degree_lem) ∙ e) (sym answer_deep ∙ f))

@@ -80,8 +80,8 @@ abbrev pub find_larger : Graph → ℕ → Factor → List ℕ → ℕ → ℕ �
 find_larger = find (λ k r sum largest. false)
 
 -- the search that leaves a hopeless branch
-abbrev pub findCut : Graph → ℕ → Factor → List ℕ → ℕ → ℕ → ℕ → ℕ → List ℕ → Bool
-findCut G notion c = find (hopeless notion c) G notion c
+abbrev pub find_cut : Graph → ℕ → Factor → List ℕ → ℕ → ℕ → ℕ → ℕ → List ℕ → Bool
+find_cut G notion c = find (hopeless notion c) G notion c
 
 -- v stands in the list
 abbrev pub Listed : ℕ → List ℕ → Type 0

@@ -1,7 +1,7 @@
 -- `isolation::hopeless` meets its contract: a test for each notion.
 -- Assumes nothing.
 use native.Mathlib.Omega.{arith}
-use Rattle.isolation.proofs.Notions.{product_small, hopeless-min, hopeless-avg, hopeless-max}
+use Rattle.isolation.proofs.Notions.{product_small, hopeless-min, hopeless_avg, hopeless-max}
 use Rattle.isolation.proofs.hopeless.Goals as goal
 
 pub returns-then-s-eq0 : goal.returns-then-s-eq0
@@ -14,7 +14,7 @@ pub returns-then-s-eq1 : goal.returns-then-s-eq1
 returns-then-s-eq1 c =
     let avg = c in
     let others = avg in
-    hopeless-avg _ _ _ _ _ _ avg.if-s-eq1.true others.less-most.ensures
+    hopeless_avg _ _ _ _ _ _ avg.if-s-eq1.true others.less-most.ensures
     c.less.ensures c.within.ensures
 
 pub returns : goal.returns

@@ -12,7 +12,7 @@ use Rattle.model.specs.Below.{count, total}
 use Rattle.model.specs.Graph.{Graph, degree}
 use Rattle.model.specs.Groups.{Factor, VertexSet, size_of, outside, outgoing, with_vertex}
 use Rattle.model.specs.Meaning.{In, Clique, Loopless, Symmetric}
-use Rattle.theory.specs.Search.{Tally, degree_sum, largest_degree, isolated_by, joined_all, find_larger, hopeless, find, findCut, Listed, Candidates}
+use Rattle.theory.specs.Search.{Tally, degree_sum, largest_degree, isolated_by, joined_all, find_larger, hopeless, find, find_cut, Listed, Candidates}
 use Rattle.theory.proofs.Basics.Tests.{test_not, trichotomy, fails, passes_or_fails}
 use Rattle.theory.proofs.Basics.Counting.{count-sub}
 use Rattle.theory.proofs.Graph.Factor.{under_test, under_mono, under_wider}
@@ -128,7 +128,7 @@ module _ (G : Graph) (loopless : Loopless G) (symmetric : Symmetric G) (notion :
 
   -- so the search that leaves it says the same
   pub cut-same : (vs : List ℕ) (T : VertexSet) (added : List ℕ) (k sum least largest : ℕ) → Ready G T added k sum least largest vs
-      → findCut G notion c added k sum least largest vs ≡ find_larger G notion c added k sum least largest vs
+      → find_cut G notion c added k sum least largest vs ≡ find_larger G notion c added k sum least largest vs
   unfolding find
   cut-same [] T added k sum least largest r = refl
   cut-same (v ∷ vs) T added k sum least largest r =
@@ -148,6 +148,6 @@ module _ (G : Graph) (loopless : Loopless G) (symmetric : Symmetric G) (notion :
       both here false e d s = s
 
   -- from the common neighbours of a clique both searches say the same
-  pub search-cut : (S : VertexSet) → Clique G S → (vs : List ℕ) → Candidates G S vs → (k sum least largest : ℕ) → Tally G S k sum least largest
-      → findCut G notion c [] k sum least largest vs ≡ find_larger G notion c [] k sum least largest vs
-  search-cut S C vs A k sum least largest t = cut-same vs S [] k sum least largest (ready_start G S k sum least largest vs C t A)
+  pub search_cut : (S : VertexSet) → Clique G S → (vs : List ℕ) → Candidates G S vs → (k sum least largest : ℕ) → Tally G S k sum least largest
+      → find_cut G notion c [] k sum least largest vs ≡ find_larger G notion c [] k sum least largest vs
+  search_cut S C vs A k sum least largest t = cut-same vs S [] k sum least largest (ready_start G S k sum least largest vs C t A)

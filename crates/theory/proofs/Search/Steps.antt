@@ -9,28 +9,28 @@ use lib.ListN.{length, get_or, drop, length-drop, drop_of_length-le}
 use lib.Seq.{drop-cons}
 use Rattle.model.specs.Graph.{Graph, degree}
 use Rattle.model.specs.Groups.{Factor}
-use Rattle.theory.specs.Search.{isolated_by, joined_all, hopeless, find, findCut}
+use Rattle.theory.specs.Search.{isolated_by, joined_all, hopeless, find, find_cut}
 
 -- one candidate: a, it is joined to those added; h, the set with it is isolated; d, the search finds more with it; r, the search finds more without it
 module _ (a h d r : Bool) where
-  apart-or : a ≡ false → ((a && (h || d)) || r) ≡ r
-  apart-or e = rw e
+  apart_or : a ≡ false → ((a && (h || d)) || r) ≡ r
+  apart_or e = rw e
 
-  here-or : a ≡ true → h ≡ true → ((a && (h || d)) || r) ≡ true
-  here-or e f = rw (e, f)
+  here_or : a ≡ true → h ≡ true → ((a && (h || d)) || r) ≡ true
+  here_or e f = rw (e, f)
 
-  deeper-or : a ≡ true → d ≡ true → ((a && (h || d)) || r) ≡ true
-  deeper-or e f = rw (e, f) (ap (λ (x : Bool). x || r) (or-true h))
+  deeper_or : a ≡ true → d ≡ true → ((a && (h || d)) || r) ≡ true
+  deeper_or e f = rw (e, f) (ap (λ (x : Bool). x || r) (or-true h))
 
-  next-or : h ≡ false → d ≡ false → ((a && (h || d)) || r) ≡ r
-  next-or e f = rw (e, f) (ap (λ (x : Bool). x || r) (and-false a))
+  next_or : h ≡ false → d ≡ false → ((a && (h || d)) || r) ≡ r
+  next_or e f = rw (e, f) (ap (λ (x : Bool). x || r) (and-false a))
 
 -- the search over the candidates from place i of the list
 module _ (G : Graph) (notion : ℕ) (c : Factor) (added : List ℕ) (k sum least largest : ℕ) (vs : List ℕ) (i : ℕ) where
   -- past the last candidate nothing is found
-  pub cut-end : length vs ≤ i → findCut G notion c added k sum least largest (drop i vs) ≡ false
+  pub cut_end : length vs ≤ i → find_cut G notion c added k sum least largest (drop i vs) ≡ false
   unfolding find
-  cut-end h = rw (drop_of_length-le vs h)
+  cut_end h = rw (drop_of_length-le vs h)
 
   module _ (inside : i < length vs) where
     -- the candidate there, whether the set with it is isolated, and the search with it
@@ -42,48 +42,48 @@ module _ (G : Graph) (notion : ℕ) (c : Factor) (added : List ℕ) (k sum least
 
     abbrev deeper : Bool
     deeper =
-        findCut G notion c (added ++ (candidate ∷ [])) (k + 1) (sum + degree G candidate) (min least (degree G candidate)) (max largest (degree G candidate))
+        find_cut G notion c (added ++ (candidate ∷ [])) (k + 1) (sum + degree G candidate) (min least (degree G candidate)) (max largest (degree G candidate))
         (drop (i + 1) vs)
 
     first : drop i vs ≡ candidate ∷ drop (i + 1) vs
     first = drop-cons vs i 0 inside ∙ ap (λ (j : ℕ). candidate ∷ drop j vs) (sym (add-one i))
 
     -- what the search finds at a candidate
-    pub cut_at : findCut G notion c added k sum least largest (drop i vs)
+    pub cut_at : find_cut G notion c added k sum least largest (drop i vs)
         ≡ (not (hopeless notion c k (length vs - i) sum largest)
-        && ((joined_all G candidate added && (here || deeper)) || findCut G notion c added k sum least largest (drop (i + 1) vs)))
+        && ((joined_all G candidate added && (here || deeper)) || find_cut G notion c added k sum least largest (drop (i + 1) vs)))
     unfolding find
     cut_at =
-        ap (λ (l : List ℕ). findCut G notion c added k sum least largest l) first
+        ap (λ (l : List ℕ). find_cut G notion c added k sum least largest l) first
         ∙ ap (λ (r : ℕ). not (hopeless notion c k r sum largest)
-        && ((joined_all G candidate added && (here || deeper)) || findCut G notion c added k sum least largest (drop (i + 1) vs))) left
+        && ((joined_all G candidate added && (here || deeper)) || find_cut G notion c added k sum least largest (drop (i + 1) vs))) left
       where
         left : length (candidate ∷ drop (i + 1) vs) ≡ length vs - i
         left = ap length (sym first) ∙ length-drop i vs
 
     -- nothing is found in a hopeless branch
-    pub cut-hopeless : hopeless notion c k (length vs - i) sum largest ≡ true → findCut G notion c added k sum least largest (drop i vs) ≡ false
+    pub cut-hopeless : hopeless notion c k (length vs - i) sum largest ≡ true → find_cut G notion c added k sum least largest (drop i vs) ≡ false
     cut-hopeless e = cut_at ∙ rw e
 
     module _ (hope : hopeless notion c k (length vs - i) sum largest ≡ false) where
-      cut_on : findCut G notion c added k sum least largest (drop i vs)
-          ≡ ((joined_all G candidate added && (here || deeper)) || findCut G notion c added k sum least largest (drop (i + 1) vs))
+      cut_on : find_cut G notion c added k sum least largest (drop i vs)
+          ≡ ((joined_all G candidate added && (here || deeper)) || find_cut G notion c added k sum least largest (drop (i + 1) vs))
       cut_on = cut_at ∙ rw hope
 
       -- passed over
       pub cut_apart : joined_all G candidate added ≡ false
-          → findCut G notion c added k sum least largest (drop i vs) ≡ findCut G notion c added k sum least largest (drop (i + 1) vs)
-      cut_apart e = cut_on ∙ apart-or _ here deeper _ e
+          → find_cut G notion c added k sum least largest (drop i vs) ≡ find_cut G notion c added k sum least largest (drop (i + 1) vs)
+      cut_apart e = cut_on ∙ apart_or _ here deeper _ e
 
       -- found with it
-      pub cut-here : joined_all G candidate added ≡ true → here ≡ true → findCut G notion c added k sum least largest (drop i vs) ≡ true
-      cut-here e f = cut_on ∙ here-or _ here deeper _ e f
+      pub cut_here : joined_all G candidate added ≡ true → here ≡ true → find_cut G notion c added k sum least largest (drop i vs) ≡ true
+      cut_here e f = cut_on ∙ here_or _ here deeper _ e f
 
       -- found below it
-      pub cut-deeper : joined_all G candidate added ≡ true → deeper ≡ true → findCut G notion c added k sum least largest (drop i vs) ≡ true
-      cut-deeper e f = cut_on ∙ deeper-or _ here deeper _ e f
+      pub cut_deeper : joined_all G candidate added ≡ true → deeper ≡ true → find_cut G notion c added k sum least largest (drop i vs) ≡ true
+      cut_deeper e f = cut_on ∙ deeper_or _ here deeper _ e f
 
       -- passed over, where nothing is found with it
       pub cut-next : here ≡ false → deeper ≡ false
-          → findCut G notion c added k sum least largest (drop i vs) ≡ findCut G notion c added k sum least largest (drop (i + 1) vs)
-      cut-next e f = cut_on ∙ next-or (joined_all G candidate added) here deeper _ e f
+          → find_cut G notion c added k sum least largest (drop i vs) ≡ find_cut G notion c added k sum least largest (drop (i + 1) vs)
+      cut-next e f = cut_on ∙ next_or (joined_all G candidate added) here deeper _ e f
