@@ -1,4 +1,6 @@
 // The text reader of document 01: an edge text becomes the table of a graph, line by line, in place.
+#![tactic(auto)]
+
 ghost use Rattle.std.specs.Prelude.{[], length};
 ghost use Rattle.model.specs.Text.{refused_at, read_from};
 ghost use Rattle.lines.specs.Line.{reading_of, ReadingFits};

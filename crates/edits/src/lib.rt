@@ -1,4 +1,6 @@
 // Document 02, C-12: the two calls that join or part a pair of vertices, and the call that lists the degrees.
+#![tactic(auto)]
+
 ghost use Rattle.std.specs.Prelude.{◌≡◌, true, false, ◌<◌};
 ghost use Rattle.model.specs.Graph.{with_pair};
 ghost use Rattle.model.specs.Edits.{refuse_edit, recount};

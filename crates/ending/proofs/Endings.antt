@@ -9,7 +9,7 @@ use Rattle.listing.specs.declared.totals.Listed.{Listed}
 use Rattle.request.specs.declared.verdict.Verdict.{Verdict}
 use Rattle.request.specs.declared.verdict.Verdict.TheVariants.{Refused, Listing}
 use Rattle.ending.specs.declared.Outcome.{Outcome}
-use Rattle.ending.specs.declared.Outcome.TheVariants.{Ended, TurnedBack, Cut, Unread}
+use Rattle.ending.specs.declared.Outcome.TheVariants.{Ended, TurnedBack, Cut}
 use Rattle.ending.specs.Ending.{last_line, outcome_of, outcome_line}
 
 -- ---- the last line

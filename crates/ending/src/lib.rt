@@ -1,4 +1,6 @@
 // How the program ends: its last line, and what it tells of itself to those who ask.
+#![tactic(auto)]
+
 ghost use Rattle.std.specs.Prelude.{◌≡◌, ◌≤◌, length};
 ghost use Rattle.print.specs.Put.{Puts};
 ghost use Rattle.ending.specs.Ending.{last_line, outcome_of, outcome_line};

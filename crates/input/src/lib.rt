@@ -1,4 +1,6 @@
 // The refusals that page and set query have alike: 1 to 5, 42 and 6 to 10. Document 01, "Turned back by the input", and document 02, C-12.
+#![tactic(auto)]
+
 ghost use Rattle.std.specs.Prelude.{◌≡◌};
 ghost use Rattle.model.specs.Calls.{refuse_input};
 ghost use Rattle.graph.specs.Table.{lent};

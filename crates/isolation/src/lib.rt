@@ -7,7 +7,7 @@ ghost use Rattle.model.specs.Calls.{refuse_settings};
 ghost use Rattle.isolation.specs.Numbers.{settings_of, with_member, Small, isolated_of, hopeless_of};
 
 // What a call fixes beside the graph: notion 0 min, 1 avg, 2 max; kind 0 maximal isolated, 1 isolated maximal; the factor c.
-#[derive(Drop)]
+#[derive(Clone, Copy)]
 pub struct Settings {
     pub notion: u32,
     pub kind: u32,
@@ -15,7 +15,7 @@ pub struct Settings {
 }
 
 // A set's numbers: how many members, the sum of their degrees, the least and the largest of them.
-#[derive(Drop)]
+#[derive(Clone, Copy)]
 pub struct Tally {
     pub members: usize,
     pub sum: usize,

@@ -1,4 +1,6 @@
 // The search for a larger isolated clique, and whether a clique is maximal of its kind.
+#![tactic(auto)]
+
 ghost use Rattle.std.specs.Prelude.{◌≡◌, ◌-◌, ◌<◌, ◌≤◌, length};
 ghost use Rattle.theory.specs.Search.{joined_all};
 ghost use Rattle.graph.specs.Table.{TableFits, graph_of};

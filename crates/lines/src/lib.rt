@@ -1,4 +1,6 @@
 // One line of the text: what it says, or its fault by document 01's number and in its order.
+#![tactic(auto)]
+
 pub mod table;
 
 ghost use Rattle.std.specs.Prelude.{◌≡◌, true, not, ◌&&◌, ◌+◌, ◌<◌, ◌^◌, length, take, drop, eqb};
@@ -8,7 +10,7 @@ ghost use Rattle.lines.specs.Line.{FirstByte, reading_of, start, ReadingFits, Li
 use number::Pair;
 
 // What the lines so far say: whether a p line passed, its N and M, and the count of e lines.
-#[derive(Drop)]
+#[derive(Clone, Copy)]
 pub struct Said {
     pub passed: bool,
     pub vertices: usize,

@@ -37,6 +37,9 @@ unfolding printed_from
 size-goes zero d es = absurd (d refl)
 size-goes (suc e) d es = refl
 
+one_less : (k : ℕ) → suc k ≡ suc (suc k) - 1
+one_less k = omega arith
+
 -- a vertex
 vertex-goes : (left e : ℕ) → left ≢ 0 → (es : List ℕ)
     → printed_from left (e ∷ es) ≡ (numeral (e + 1) ++ (cond (eqb left 1) 10 32 ∷ [])) ++ printed_from (left - 1) es
@@ -48,7 +51,7 @@ vertex-goes (suc (suc k)) e d es =
     ap (λ (m : ℕ). numeral m ++ (32 ∷ printed_from (suc k) es)) (sym (add-one e))
     ∙ sym (append_assoc (numeral (e + 1)) (32 ∷ []) (printed_from (suc k) es))
     ∙ ap₂ (λ (z l : ℕ). (numeral (e + 1) ++ (z ∷ [])) ++ printed_from l es)
-    (sym (ap (λ (b : Bool). cond {A = ℕ} b 10 32) (ne_eqb (suc (suc k)) 1 (λ z. omega arith)))) (omega arith)
+    (sym (ap (λ (b : Bool). cond {A = ℕ} b 10 32) (ne_eqb (suc (suc k)) 1 (λ z. omega arith)))) (one_less k)
 
 module _ {b : List ℕ} {start left e : ℕ} where
   pub put_empty : left ≡ 0 → e ≡ 0 → start < length b → EntryPut b start left e (set b start 10) (record { at = start + 1; left = 0 })

@@ -12,11 +12,9 @@ use Rattle.model.specs.Text.{number_of}
 use Rattle.model.specs.Program.{wrong, chosen, bounded, three, settings_of_words}
 use Rattle.theory.proofs.Program.Program.{not_three}
 use Rattle.number.proofs.Numbers.{number_empty, number-long}
-use Rattle.isolation.specs.Numbers as numbers
-use Rattle.isolation.specs.declared.Settings.{Settings}
 use Rattle.request.specs.declared.words.Words.{Words}
 use Rattle.request.specs.declared.words.Words.TheVariants.{Wrong, Chosen}
-use Rattle.request.specs.Words.{words_of, Proper, WordsRead, Held, Handed, passes, TextWanted}
+use Rattle.request.specs.Words.{words_of, WordsRead, Held, Handed, passes, TextWanted}
 
 -- ---- what three words say
 

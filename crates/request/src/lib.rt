@@ -1,3 +1,5 @@
 // What the program is asked: its words and its text, read and judged.
+#![tactic(auto)]
+
 pub mod verdict;
 pub mod words;

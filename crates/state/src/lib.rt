@@ -1,5 +1,7 @@
 // The state of a page: how it stands for a position, rebuilt from one, and with the next rank taken or left. It looks at the taken vertices and at the
 // rank that is decided, and at nothing else of the position.
+#![tactic(auto)]
+
 ghost use Rattle.std.specs.Prelude.{◌≡◌, false, ◌||◌, not, ◌+◌, ◌-◌, ◌*◌, ◌≤◌, ◌<◌, length, get_or};
 ghost use Rattle.model.specs.Below.{any, least};
 ghost use Rattle.model.specs.Listing.{is};
@@ -17,7 +19,7 @@ use ranks::vertex_at;
 
 // What a page keeps beside the position and the work slice: how many ranks are decided, how many of them are taken, how many neighbours of the
 // pivot are left, the sum of the taken vertices' degrees, and whether two taken ranks are not adjacent.
-#[derive(Drop)]
+#[derive(Clone, Copy)]
 pub struct State {
     pub decided: usize,
     pub taken: usize,

@@ -1,11 +1,11 @@
 -- `number::digits` meets its contract: the bytes so far are digits. Assumes nothing.
-use Prim.Native.Nat.{ℕ, ◌*◌, ◌+◌, ◌^◌, ◌≤◌, ◌<◌, ◌-◌}
+use Prim.Native.Nat.{ℕ, ◌*◌, ◌+◌, ◌≤◌, ◌<◌}
 use mathlib.Core.Path.{◌≡◌, sym, ap₂, ◌∙◌}
-use mathlib.Core.Bool.{true, false}
+use mathlib.Core.Bool.{false}
 use mathlib.Core.List.{List}
 use native.Mathlib.Omega.{arith}
-use lib.ListN.{length, get_or, take}
-use Rattle.model.specs.Text.{digits, decimal}
+use lib.ListN.{length, get_or}
+use Rattle.model.specs.Text.{digits}
 use Rattle.number.specs.Field.{DigitsLead}
 use Rattle.number.proofs.Numbers.{digit-below, digit-above, spoilt_from, first-digit, first-value, digit-more, value-more, power_more, power_six}
 use Rattle.number.proofs.digits.Goals as goal
@@ -42,18 +42,17 @@ overflow_add-value c =
 pub returns-in_default : goal.returns-in_default
 returns-in_default c =
     let l = c.loop-i in
-    stopped _ _ _ l.invariant (λ h k. spoilt_from _ l.i (digit-below _ l.i k c.if-b-lt48.true))
+    stopped _ _ _ l.invariant (λ h k. spoilt_from _ l.i (digit-below _ l.i k (omega arith)))
 
 pub returns-in_default-2 : goal.returns-in_default-2
 returns-in_default-2 c =
     let l = c.loop-i in
-    stopped _ _ _ l.invariant (λ h k. spoilt_from _ l.i (digit-above _ l.i k c.if-b-lt58.false))
+    stopped _ _ _ l.invariant (λ h k. spoilt_from _ l.i (digit-above _ l.i k (omega arith)))
 
 pub loop-i-preserved : goal.loop-i-preserved
 loop-i-preserved c =
-    let l = c in
-    let f = l.args.bytes.now in
-    let i = l.loop-i.i in
+    let f = c.args.bytes.now in
+    let i = c.loop-i.i in
     let h : i < length f = omega arith in
     let low : 48 ≤ get_or f i 0 = omega arith in
     let high : get_or f i 0 ≤ 57 = omega arith in
@@ -61,9 +60,9 @@ loop-i-preserved c =
       omega arith,
       omega arith,
       omega arith,
-      power_more i l.loop-i.value c.wide.result l.loop-i.invariant.3 d,
-      digit-more f i h low high ∙ l.loop-i.invariant.4,
-      value-more f i h ∙ ap₂ (λ (v x : ℕ). v * 10 + x) l.loop-i.invariant.5 (sym c.wide.ensures),
+      power_more i c.loop-i.value c.wide.result c.loop-i.invariant.3 d,
+      digit-more f i h low high ∙ c.loop-i.invariant.4,
+      value-more f i h ∙ ap₂ (λ (v x : ℕ). v * 10 + x) c.loop-i.invariant.5 (sym c.wide.ensures),
     )
 
 pub returns : goal.returns

@@ -1,13 +1,10 @@
 -- `number::digits` meets its contract: the bytes so far are digits. Assumes nothing.
-use Prim.Native.Nat.{ℕ, ◌*◌, ◌+◌, ◌^◌, ◌≤◌, ◌<◌, ◌-◌}
-use mathlib.Core.Path.{◌≡◌, sym, ap₂, ◌∙◌}
-use mathlib.Core.Bool.{true, false}
+use Prim.Native.Nat.{ℕ, ◌^◌, ◌≤◌, ◌<◌, ◌-◌}
+use mathlib.Core.Path.{◌≡◌}
+use mathlib.Core.Bool.{true}
 use mathlib.Core.List.{List}
-use native.Mathlib.Omega.{arith}
-use lib.ListN.{length, get_or, take}
+use lib.ListN.{length, take}
 use Rattle.model.specs.Text.{digits, decimal}
-use Rattle.number.specs.Field.{DigitsLead}
-use Rattle.number.proofs.Numbers.{digit-below, digit-above, spoilt_from, first-digit, first-value, digit-more, value-more, power_more, power_six}
 use Rattle.number.proofs.digits.Given as goal
 
 -- the first i bytes are digits of this value

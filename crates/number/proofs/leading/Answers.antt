@@ -42,13 +42,13 @@ none-leads : (s : List ℕ) → digits s ≡ false → NumberLeads s (record { v
 none-leads s e = record { within = omega arith; number = λ q. absurd (omega arith); small = omega arith; whole = λ q. number_spoilt s e }
 
 pub returns-in-48 : goal.returns-in-48
-returns-in-48 c = zero-leads _ c.requires c.in-48.keys1
+returns-in-48 c = zero-leads _ c.requires c.in-48.is
 
 pub returns-in-49-to-57 : goal.returns-in-49-to-57
-returns-in-49-to-57 c = digits-lead _ _ c.digits.ensures c.in-48.rest.1
+returns-in-49-to-57 c = digits-lead _ _ c.digits.ensures (λ e. absurd (omega arith))
 
 pub returns-in_default : goal.returns-in_default
-returns-in_default c = none-leads _ (digit-below _ 0 c.requires (omega (arith, c.in-48.rest.1)))
+returns-in_default c = none-leads _ (digit-below _ 0 c.requires (omega arith))
 
 pub returns-in_default-2 : goal.returns-in_default-2
-returns-in_default-2 c = none-leads _ (digit-above _ 0 c.requires c.if-first-lt58.false)
+returns-in_default-2 c = none-leads _ (digit-above _ 0 c.requires (omega arith))

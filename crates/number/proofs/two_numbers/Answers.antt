@@ -17,29 +17,26 @@ slice_bounds-number-end c = sym (length-take-le _ _ c.find-end.ensures.within)
 
 pub returns-in_default : goal.returns-in_default
 returns-in_default c =
-    let l = c in
     record {
-      goes = two-not-first l.find-end.ensures c.if-part-end.false (read_as c.enum_told-1.given.1 c.number.ensures).value;
+      goes = two-not-first c.find-end.ensures c.if-part-end.false (read_as c.in_default.is c.number.ensures).value;
       small = tt;
     }
 
 pub returns-in_default-number : goal.returns-in_default-number
 returns-in_default-number c =
-    let l = c in
-    let e = (read_as c.enum_told-in_default-number-1.given.1 c.number-2.ensures).value ∙ ap number_of (part_tail _ (l.find-end.result + 1)) in
+    let e = (read_as c.in_default-number.is c.number-2.ensures).value ∙ ap number_of (part_tail _ (c.find-end.result + 1)) in
     record {
-      goes = two-not-second l.find-end.ensures c.if-part-end.false e;
+      goes = two-not-second c.find-end.ensures c.if-part-end.false e;
       small = tt;
     }
 
 pub returns : goal.returns
 returns c =
-    let l = c in
-    let first = read_as c.a-1.given.1 c.number.ensures in
-    let second = read_as c.b-1.given.1 c.number-2.ensures in
+    let first = read_as c.in-Number.is c.number.ensures in
+    let second = read_as c.in-Number-number.is c.number-2.ensures in
     record {
-      goes = two_both l.find-end.ensures c.if-part-end.false
-          first.value (second.value ∙ ap number_of (part_tail _ (l.find-end.result + 1)));
+      goes = two_both c.find-end.ensures c.if-part-end.false
+          first.value (second.value ∙ ap number_of (part_tail _ (c.find-end.result + 1)));
       small = (first.small, second.small);
     }
 

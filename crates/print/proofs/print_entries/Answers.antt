@@ -1,9 +1,7 @@
 -- `print::print_entries` meets its contract. Assumes nothing.
-use Prim.Native.Nat.{◌-◌}
 use native.Mathlib.Omega.{arith}
-use lib.ListN.{length}
 use Rattle.print.proofs.Puts.{puts-length}
-use Rattle.print.proofs.Printed.{SoFar, so_none, so_more, so_all}
+use Rattle.print.proofs.Printed.{so_none, so_more, so_all}
 use Rattle.print.proofs.print_entries.Goals as goal
 
 pub loop-i-init : goal.loop-i-init
@@ -17,8 +15,7 @@ put_entry-s-requires c =
 
 pub loop-i-preserved : goal.loop-i-preserved
 loop-i-preserved c =
-    let l = c in
-    so_more l.loop-i.invariant (omega arith) c.put_entry-s.ensures
+    so_more c.loop-i.invariant (omega arith) c.put_entry-s.ensures
 
 pub shape_of-bytes : goal.shape_of-bytes
 shape_of-bytes c = puts-length c.loop-i.invariant.puts

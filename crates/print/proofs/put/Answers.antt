@@ -1,9 +1,8 @@
 -- `print::put` meets its contract. Assumes nothing.
-use Prim.Native.Nat.{ℕ, ◌+◌, ◌-◌, ◌≤◌}
+use Prim.Native.Nat.{ℕ}
 use mathlib.Core.Path.{subst}
 use mathlib.Core.List.{[]}
 use native.Mathlib.Omega.{arith}
-use lib.ListN.{length, take}
 use Rattle.print.specs.Put.{Puts}
 use Rattle.print.proofs.Puts.{puts_none, puts-length, puts-next, puts_word}
 use Rattle.print.proofs.put.Goals as goal
@@ -18,9 +17,8 @@ bounds-bytes-at c = omega (arith, puts-length c.loop-i.invariant.1)
 
 pub loop-i-preserved : goal.loop-i-preserved
 loop-i-preserved c =
-    let l = c in
-    let p = l.loop-i.invariant.1 in
-    (omega arith, puts-next l.args.word.now l.loop-i.i p (omega arith) (omega (arith, puts-length p)))
+    let p = c.loop-i.invariant.1 in
+    (omega arith, puts-next c.args.word.now c.loop-i.i p (omega arith) (omega (arith, puts-length p)))
 
 pub shape_of-bytes : goal.shape_of-bytes
 shape_of-bytes c = puts-length c.loop-i.invariant.1

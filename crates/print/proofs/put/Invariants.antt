@@ -1,11 +1,7 @@
 -- `print::put` meets its contract. Assumes nothing.
-use Prim.Native.Nat.{ℕ, ◌+◌, ◌-◌, ◌≤◌}
-use mathlib.Core.Path.{subst}
-use mathlib.Core.List.{[]}
-use native.Mathlib.Omega.{arith}
+use Prim.Native.Nat.{◌+◌, ◌-◌, ◌≤◌}
 use lib.ListN.{length, take}
 use Rattle.print.specs.Put.{Puts}
-use Rattle.print.proofs.Puts.{puts_none, puts-length, puts-next, puts_word}
 use Rattle.print.proofs.put.Given as goal
 
 abbrev pub invariant-loop-i : goal.invariant-loop-i

@@ -17,5 +17,4 @@ bounds-bytes-end c = byte_fits _ (omega arith) (omega arith) c.put_number-end.en
 
 pub returns : goal.returns
 returns c =
-    let n = c in
-    put-vertex n.if-left-eq0.false (omega arith) n.put_number-end.ensures (byte_fits _ (omega arith) (omega arith) n.put_number-end.ensures) c.parting.ensures
+    put-vertex c.if-left-eq0.false (omega arith) c.put_number-end.ensures (byte_fits _ (omega arith) (omega arith) c.put_number-end.ensures) c.parting.ensures

@@ -15,17 +15,12 @@ put_number-newline-requires c =
 
 pub bounds-bytes-newline : goal.bounds-bytes-newline
 bounds-bytes-newline c =
-    let n = c in
-    let w = n in
-    line_end w.put-first.ensures n.put_number-space.ensures c.put_number-newline.ensures (omega arith)
+    line_end c.put-first.ensures c.put_number-space.ensures c.put_number-newline.ensures (omega arith)
 
 pub shape_of-bytes : goal.shape_of-bytes
 shape_of-bytes c =
-    let n = c in
-    simp length-set (line-length n.put-first.ensures n.put_number-space.ensures c.put_number-newline.ensures)
+    simp length-set (line-length c.put-first.ensures c.put_number-space.ensures c.put_number-newline.ensures)
 
 pub returns : goal.returns
 returns c =
-    let n = c in
-    let w = n in
-    puts-line w.put-first.ensures n.put_number-space.ensures c.put_number-newline.ensures (omega arith)
+    puts-line c.put-first.ensures c.put_number-space.ensures c.put_number-newline.ensures (omega arith)

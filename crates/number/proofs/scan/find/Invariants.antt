@@ -1,9 +1,7 @@
 -- `number::scan::find` meets its contract: none of the places passed holds the byte. Assumes nothing.
 use Prim.Native.Nat.{ℕ, ◌≤◌, ◌<◌, ◌-◌}
 use mathlib.Core.Path.{◌≡◌}
-use native.Mathlib.Omega.{arith}
 use lib.ListN.{length, get_or}
-use borrow.Author.Count.{below_more}
 use Rattle.number.proofs.scan.find.Given as goal
 
 abbrev pub invariant-loop-i : goal.invariant-loop-i

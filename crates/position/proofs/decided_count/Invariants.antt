@@ -1,0 +1,18 @@
+-- `position::decided_count` meets its contract: no rank that was passed is open.
+-- Assumes nothing.
+use Prim.Native.Nat.{ℕ, ◌-◌, ◌≤◌, ◌<◌}
+use mathlib.Core.Path.{◌≡◌, sym}
+use mathlib.Core.Bool.{false}
+use native.Mathlib.Omega.{arith}
+use lib.ListN.{length}
+use borrow.Author.Tests.{eq-eqb, ne_eqb}
+use borrow.Author.Count.{below_more}
+use Rattle.model.specs.Listing.{is}
+use Rattle.theory.proofs.Basics.Counting.{least-is}
+use Rattle.position.proofs.decided_count.Given as goal
+
+abbrev pub invariant-loop-i : goal.invariant-loop-i
+invariant-loop-i l = (l.i ≤ length l.position) × ((k : ℕ) → k < l.i → is 0 l.position k ≡ false)
+
+abbrev pub decreases-loop-i : goal.decreases-loop-i
+decreases-loop-i l = length l.position - l.i

@@ -1,0 +1,18 @@
+-- `state::misses_one` meets its contract: the vertices that were passed are joined to v.
+-- Assumes nothing.
+use Prim.Native.Nat.{ℕ, ◌+◌, ◌-◌, ◌≤◌, ◌<◌}
+use mathlib.Core.Path.{◌≡◌, sym, ap, ◌∙◌}
+use mathlib.Core.Bool.{Bool, not, false}
+use mathlib.Core.List.{List}
+use native.Mathlib.Omega.{arith}
+use lib.ListN.{get_or}
+use Rattle.theory.proofs.Basics.Tests.{from_more, any_found, any_none}
+use Rattle.graph.specs.Table.{graph_of}
+use Rattle.state.proofs.misses_one.Given as goal
+
+abbrev pub invariant-loop-j : goal.invariant-loop-j
+invariant-loop-j l =
+    (l.j ≤ l.k) × ((i : ℕ) → l.j ≤ i → i < l.k → not ((graph_of l.n l.table).joined (get_or l.work (l.n + i) 0) l.v) ≡ false)
+
+abbrev pub decreases-loop-j : goal.decreases-loop-j
+decreases-loop-j l = l.j
