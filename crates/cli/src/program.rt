@@ -6,7 +6,7 @@ ghost use Rattle.request.specs.Verdict.{Fine};
 ghost use Rattle.ending.specs.Ending.{last_line};
 ghost use Rattle.cli.specs.Printing.{ListedBy, Answers, Responds};
 
-use crate::input::read_wanted;
+use crate::reading::read_wanted;
 use ending::{Outcome, last_line, outcome_line, outcome_of};
 use graph::fill_degrees;
 use isolation::Settings;

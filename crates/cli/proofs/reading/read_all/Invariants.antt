@@ -1,6 +1,6 @@
--- `cli::input::read_all` ends: each read that goes on brings a byte more. Assumes nothing.
+-- `cli::reading::read_all` ends: each read that goes on brings a byte more. Assumes nothing.
 use Rattle.std.proofs.Common.{length, ◌-◌, ◌≤◌}
-use Rattle.cli.proofs.input.read_all.Given as goal
+use Rattle.cli.proofs.reading.read_all.Given as goal
 
 abbrev pub invariant-loop-done : goal.invariant-loop-done
 invariant-loop-done g l = l.done ≤ length l.text
