@@ -1,5 +1,5 @@
 -- Demands 2 and 3, C-11 and C-12 hold of the compiled functions `page::page`, `query::set_query`, `dimacs::read_text`, `edits::join`, `edits::part` and
--- `edits::list_degrees`, and of the exported ones of crate `ffi` that C and Rust link. Nothing of a contract is restated: `promised` is the contract that the checker proved.
+-- `edits::list_degrees`, and of the calls of crate `ffi`, whose contracts those that C and Rust link, in `ffi_c`, repeat. Nothing of a contract is restated: `promised` is the contract that the checker proved.
 -- Assumes nothing.
 use mathlib.Core.Bool.{true, false}
 use mathlib.Core.Logic.{inl, inr}

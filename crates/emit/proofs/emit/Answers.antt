@@ -1,7 +1,6 @@
 -- `emit::emit` meets its contract, way by way.
 -- Assumes nothing.
 use native.Mathlib.Omega.{arith}
-use borrow.Author.Tests.{not-true, not-false}
 use Rattle.qualify.proofs.Verdicts.{taken-few}
 use Rattle.emit.proofs.Output.{emitted_none, emitted_full, emitted_put}
 use Rattle.emit.proofs.emit.Goals as goal

@@ -1,12 +1,9 @@
 -- `members::common_neighbours` meets its contract: those of the passed vertices that are joined to every member stand in part 3.
 -- Assumes nothing.
-use Prim.Native.Nat.{◌+◌, ◌-◌, ◌*◌, ◌≤◌}
+use Prim.Native.Nat.{◌+◌}
 use mathlib.Core.Path.{sym, ap, ◌∙◌}
-use mathlib.Core.Logic.{⊎_elim}
 use native.Mathlib.Omega.{arith}
-use Rattle.model.specs.Below.{passing}
 use Rattle.theory.specs.Search.{joined_all}
-use Rattle.theory.specs.Parts.{part, Filled}
 use Rattle.theory.proofs.Basics.Parts.{same-members, filled_same, filled_none, filled_push, filled_pass, kept-state, filled_candidates}
 use Rattle.theory.proofs.Basics.Passing.{passing-none, passing-hit, passing_miss, passing_end}
 use Rattle.graph.specs.Table.{graph_of}
@@ -27,8 +24,8 @@ loop-v-preserved c =
     let same = same-members (kept-state l.invariant.2.kept c.requires.1.few) in
     let e = ap (joined_all (graph_of c.args.n c.args.table.now) l.v) (sym same) ∙ sym c.joined_to_all.ensures in
     elim c.if-joined_to_all.branch [
-      then-joined_to_all w ↦ (omega arith, omega arith, filled_same w.work-is w.m-is (filled_push _ _ _ l.invariant.2 _ _ (passing-hit _ _ (e ∙ w.if-joined_to_all.true)) (omega arith) (omega arith)))
-    | else-joined_to_all w ↦ (omega arith, omega arith, filled_same w.work-is w.m-is (filled_pass _ _ _ l.invariant.2 _ (passing_miss _ _ (e ∙ w.if-joined_to_all.false))))
+      | then-joined_to_all w ↦ (omega arith, omega arith, filled_same w.work-is w.m-is (filled_push _ _ _ l.invariant.2 _ _ (passing-hit _ _ (e ∙ w.if-joined_to_all.true)) (omega arith) (omega arith)))
+      | else-joined_to_all w ↦ (omega arith, omega arith, filled_same w.work-is w.m-is (filled_pass _ _ _ l.invariant.2 _ (passing_miss _ _ (e ∙ w.if-joined_to_all.false))))
     ]
 
 pub shape_of-work : goal.shape_of-work

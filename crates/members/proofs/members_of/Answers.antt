@@ -1,13 +1,8 @@
 -- `members::members_of` meets its contract: the members that were passed stand in part 1.
 -- Assumes nothing.
-use Prim.Native.Nat.{◌+◌, ◌-◌, ◌≤◌}
 use mathlib.Core.Path.{sym, ◌∙◌}
-use mathlib.Core.Logic.{⊎_elim}
 use native.Mathlib.Omega.{arith}
 use borrow.Author.Tests.{eq-eqb, ne_eqb}
-use Rattle.model.specs.Below.{passing}
-use Rattle.model.specs.Listing.{is}
-use Rattle.theory.specs.Parts.{Filled}
 use Rattle.theory.proofs.Basics.Parts.{filled_same, filled_none, filled_push, filled_pass}
 use Rattle.theory.proofs.Basics.Passing.{passing-none, passing-hit, passing_miss, passing_end}
 use Rattle.members.proofs.members_of.Goals as goal
@@ -20,8 +15,8 @@ pub loop-v-preserved : goal.loop-v-preserved
 loop-v-preserved c =
     let s = c.loop-v.invariant.2 in
     elim c.if-set-v-eq1.branch [
-      then-set-v-eq1 w ↦ (omega arith, omega arith, filled_same w.work-is w.k-is (filled_push _ _ _ s _ _ (passing-hit _ _ (eq-eqb _ _ w.if-set-v-eq1.true)) (omega arith) (omega arith)))
-    | else-set-v-eq1 w ↦ (omega arith, omega arith, filled_same w.work-is w.k-is (filled_pass _ _ _ s _ (passing_miss _ _ (ne_eqb _ _ w.if-set-v-eq1.false))))
+      | then-set-v-eq1 w ↦ (omega arith, omega arith, filled_same w.work-is w.k-is (filled_push _ _ _ s _ _ (passing-hit _ _ (eq-eqb _ _ w.if-set-v-eq1.true)) (omega arith) (omega arith)))
+      | else-set-v-eq1 w ↦ (omega arith, omega arith, filled_same w.work-is w.k-is (filled_pass _ _ _ s _ (passing_miss _ _ (ne_eqb _ _ w.if-set-v-eq1.false))))
     ]
 
 pub shape_of-work : goal.shape_of-work

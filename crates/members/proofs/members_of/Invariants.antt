@@ -1,15 +1,9 @@
 -- `members::members_of` meets its contract: the members that were passed stand in part 1.
 -- Assumes nothing.
 use Prim.Native.Nat.{◌+◌, ◌-◌, ◌≤◌}
-use mathlib.Core.Path.{sym, ◌∙◌}
-use mathlib.Core.Logic.{⊎_elim}
-use native.Mathlib.Omega.{arith}
-use borrow.Author.Tests.{eq-eqb, ne_eqb}
 use Rattle.model.specs.Below.{passing}
 use Rattle.model.specs.Listing.{is}
 use Rattle.theory.specs.Parts.{Filled}
-use Rattle.theory.proofs.Basics.Parts.{filled_same, filled_none, filled_push, filled_pass}
-use Rattle.theory.proofs.Basics.Passing.{passing-none, passing-hit, passing_miss, passing_end}
 use Rattle.members.proofs.members_of.Given as goal
 
 abbrev pub invariant-loop-v : goal.invariant-loop-v

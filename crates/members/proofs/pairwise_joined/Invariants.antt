@@ -1,14 +1,12 @@
 -- `members::pairwise_joined` meets its contract: each member that was passed is joined to all before it.
 -- Assumes nothing.
 use Prim.Native.Nat.{◌-◌, ◌≤◌}
-use mathlib.Core.Path.{◌≡◌, sym, ◌∙◌}
+use mathlib.Core.Path.{◌≡◌}
 use mathlib.Core.Bool.{true}
-use native.Mathlib.Omega.{arith}
-use borrow.Author.Tests.{not-true, not-false}
 use Rattle.model.specs.Below.{all}
 use Rattle.theory.specs.Parts.{part}
 use Rattle.graph.specs.Table.{graph_of}
-use Rattle.members.proofs.Listed.{joins-before, pairs_none, pairs_more, pairs_apart, pairs_all}
+use Rattle.members.proofs.Listed.{joins-before}
 use Rattle.members.proofs.pairwise_joined.Given as goal
 
 abbrev pub invariant-loop-i : goal.invariant-loop-i

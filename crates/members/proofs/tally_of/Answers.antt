@@ -1,11 +1,9 @@
 -- `members::tally_of` meets its contract: after i members the numbers are those of the first i.
 -- Assumes nothing.
-use Prim.Native.Nat.{◌-◌, ◌*◌, ◌≤◌}
-use mathlib.Core.Path.{◌≡◌, ap}
+use mathlib.Core.Path.{ap}
 use native.Mathlib.Omega.{arith}
 use Rattle.isolation.specs.declared.Tally.{Tally}
-use Rattle.theory.specs.Parts.{part}
-use Rattle.members.proofs.Listed.{TalliesFirst, tallies_none, tallies_more, tallies_all}
+use Rattle.members.proofs.Listed.{tallies_none, tallies_more, tallies_all}
 use Rattle.members.proofs.tally_of.Goals as goal
 
 pub loop-i-init : goal.loop-i-init

@@ -1,11 +1,9 @@
 -- `members::tally_of` meets its contract: after i members the numbers are those of the first i.
 -- Assumes nothing.
 use Prim.Native.Nat.{◌-◌, ◌*◌, ◌≤◌}
-use mathlib.Core.Path.{◌≡◌, ap}
-use native.Mathlib.Omega.{arith}
-use Rattle.isolation.specs.declared.Tally.{Tally}
+use mathlib.Core.Path.{◌≡◌}
 use Rattle.theory.specs.Parts.{part}
-use Rattle.members.proofs.Listed.{TalliesFirst, tallies_none, tallies_more, tallies_all}
+use Rattle.members.proofs.Listed.{TalliesFirst}
 use Rattle.members.proofs.tally_of.Given as goal
 
 abbrev pub invariant-loop-i : goal.invariant-loop-i

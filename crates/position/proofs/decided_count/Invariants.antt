@@ -1,14 +1,10 @@
 -- `position::decided_count` meets its contract: no rank that was passed is open.
 -- Assumes nothing.
 use Prim.Native.Nat.{ℕ, ◌-◌, ◌≤◌, ◌<◌}
-use mathlib.Core.Path.{◌≡◌, sym}
+use mathlib.Core.Path.{◌≡◌}
 use mathlib.Core.Bool.{false}
-use native.Mathlib.Omega.{arith}
 use lib.ListN.{length}
-use borrow.Author.Tests.{eq-eqb, ne_eqb}
-use borrow.Author.Count.{below_more}
 use Rattle.model.specs.Listing.{is}
-use Rattle.theory.proofs.Basics.Counting.{least-is}
 use Rattle.position.proofs.decided_count.Given as goal
 
 abbrev pub invariant-loop-i : goal.invariant-loop-i

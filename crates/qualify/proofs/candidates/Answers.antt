@@ -1,13 +1,10 @@
 -- `qualify::candidates` meets its contract: the left neighbours of the pivot are looked through, one after the other.
 -- Assumes nothing.
 use mathlib.Core.Path.{sym, ◌∙◌}
-use mathlib.Core.Logic.{⊎_elim}
 use native.Mathlib.Omega.{arith}
-use Prim.Native.Nat.{◌+◌, ◌-◌, ◌*◌, ◌≤◌}
-use Rattle.theory.specs.Parts.{Filled}
 use Rattle.theory.proofs.Basics.Parts.{filled_same}
 use Rattle.ranks.proofs.Ranks.{order-room}
-use Rattle.qualify.proofs.Sifted.{sifted, sifted_none, sifted_hit, sifted_miss, sifted_all, rank-small, vertex-is, members-vertices}
+use Rattle.qualify.proofs.Sifted.{sifted_none, sifted_hit, sifted_miss, sifted_all, rank-small, vertex-is, members-vertices}
 use Rattle.qualify.proofs.candidates.Goals as goal
 use Rattle.qualify.proofs.candidates.Goals.{then-joined_to_all, else-joined_to_all}
 
@@ -44,8 +41,8 @@ loop-j-preserved c =
     let u = c.vertex_at-v.ensures in
     let e = c.joined_to_all.ensures in
     elim c.if-joined_to_all.branch [
-      then-joined_to_all w ↦ (omega arith, omega arith, filled_same w.work-is w.m-is (sifted_hit p v.2 h r u v.0 (sym w.if-joined_to_all.true ∙ e)))
-    | else-joined_to_all w ↦ (omega arith, omega arith, filled_same w.work-is w.m-is (sifted_miss p v.2 h r u (sym w.if-joined_to_all.false ∙ e)))
+      | then-joined_to_all w ↦ (omega arith, omega arith, filled_same w.work-is w.m-is (sifted_hit p v.2 h r u v.0 (sym w.if-joined_to_all.true ∙ e)))
+      | else-joined_to_all w ↦ (omega arith, omega arith, filled_same w.work-is w.m-is (sifted_miss p v.2 h r u (sym w.if-joined_to_all.false ∙ e)))
     ]
 
 pub shape_of-work : goal.shape_of-work

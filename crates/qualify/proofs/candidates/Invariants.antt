@@ -1,13 +1,8 @@
 -- `qualify::candidates` meets its contract: the left neighbours of the pivot are looked through, one after the other.
 -- Assumes nothing.
-use mathlib.Core.Path.{sym, ◌∙◌}
-use mathlib.Core.Logic.{⊎_elim}
-use native.Mathlib.Omega.{arith}
 use Prim.Native.Nat.{◌+◌, ◌-◌, ◌*◌, ◌≤◌}
 use Rattle.theory.specs.Parts.{Filled}
-use Rattle.theory.proofs.Basics.Parts.{filled_same}
-use Rattle.ranks.proofs.Ranks.{order-room}
-use Rattle.qualify.proofs.Sifted.{sifted, sifted_none, sifted_hit, sifted_miss, sifted_all, rank-small, vertex-is, members-vertices}
+use Rattle.qualify.proofs.Sifted.{sifted}
 use Rattle.qualify.proofs.candidates.Given as goal
 
 abbrev pub invariant-loop-j : goal.invariant-loop-j

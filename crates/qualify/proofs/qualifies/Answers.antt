@@ -2,7 +2,6 @@
 -- Assumes nothing.
 use mathlib.Core.Path.{refl, sym, ap, ◌∙◌}
 use native.Mathlib.Omega.{arith}
-use borrow.Author.Tests.{not-true, not-false}
 use Rattle.isolation.specs.declared.Tally.{Tally}
 use Rattle.qualify.proofs.Verdicts.{judged_open, judged_untaken, judged_apart, judged_exposed, judged_by, tally-fits, sifts, lent, posed}
 use Rattle.qualify.proofs.qualifies.Goals as goal

@@ -1,7 +1,6 @@
 -- `query::set_qualifies` meets its contract: each return goes by what the steps before it gave.
 -- Assumes nothing.
 use mathlib.Core.Path.{sym, ◌∙◌}
-use borrow.Author.Tests.{not-true, not-false}
 use Rattle.query.proofs.Qualifying.{accepted, work-fits, holds-members, decide_empty, decide_apart, Counted, small-numbers, decide_open, beaten_asks, decide_beaten}
 use Rattle.query.proofs.set_qualifies.Goals as goal
 use Rattle.query.proofs.set_qualifies.Goals.{After-tally_of-y}

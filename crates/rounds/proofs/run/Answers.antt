@@ -1,13 +1,10 @@
 -- `rounds::run` meets its contract: it makes the rounds of a page.
 -- Assumes nothing.
-use Prim.Native.Nat.{◌-◌}
-use mathlib.Core.Path.{ap, ◌∙◌}
-use mathlib.Core.Logic.{⊎_elim}
+use mathlib.Core.Path.{◌∙◌}
 use native.Mathlib.Omega.{arith}
-use lib.ListN.{length}
 use Rattle.rounds.proofs.Turn.{turn_finished, turn_spent}
-use Rattle.rounds.proofs.Running.{Running, running_start, output-long, used-within, more, groups-within, running_on, reply_full}
-use Rattle.rounds.proofs.Round.{call_rules, Going, says, asks, put_at, still_going, goes_on}
+use Rattle.rounds.proofs.Running.{running_start, output-long, used-within, more, groups-within, running_on, reply_full}
+use Rattle.rounds.proofs.Round.{says, asks, put_at, still_going, goes_on}
 use Rattle.rounds.proofs.run.Goals as goal
 use Rattle.rounds.proofs.run.Goals.{then-finished, else-finished+then-steps-budget, else-finished+else-steps-budget+then-put}
 
@@ -58,9 +55,9 @@ returns c =
     let f = c.finished.ensures in
     let e = c.stop_number.ensures in
     elim c.if-finished.branch [
-      then-finished w ↦ turn_finished r.turn e w.stop-is (w.wanted-is ∙ r.none-wanted) w.output-is (says r.holds f ∙ w.if-finished.true)
-    | else-finished+then-steps-budget w ↦
-      turn_spent r.turn e (says r.holds f ∙ w.if-finished.false) w.stop-is (w.wanted-is ∙ r.none-wanted) w.output-is (omega (arith, w.if-steps-budget.true, r.turn.steps-fit))
-    | else-finished+else-steps-budget+then-put w ↦
-      reply_full r (put_at r.holds w.emit-put.ensures) (λ z. omega (arith, w.if-steps-budget.false)) (says r.holds f ∙ w.if-finished.false) w.if-put.true e w.stop-is w.wanted-is w.output-is
+      | then-finished w ↦ turn_finished r.turn e w.stop-is (w.wanted-is ∙ r.none-wanted) w.output-is (says r.holds f ∙ w.if-finished.true)
+      | else-finished+then-steps-budget w ↦
+          turn_spent r.turn e (says r.holds f ∙ w.if-finished.false) w.stop-is (w.wanted-is ∙ r.none-wanted) w.output-is (omega (arith, w.if-steps-budget.true, r.turn.steps-fit))
+      | else-finished+else-steps-budget+then-put w ↦
+          reply_full r (put_at r.holds w.emit-put.ensures) (λ z. omega (arith, w.if-steps-budget.false)) (says r.holds f ∙ w.if-finished.false) w.if-put.true e w.stop-is w.wanted-is w.output-is
     ]

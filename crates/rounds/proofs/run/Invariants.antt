@@ -1,13 +1,8 @@
 -- `rounds::run` meets its contract: it makes the rounds of a page.
 -- Assumes nothing.
 use Prim.Native.Nat.{◌-◌}
-use mathlib.Core.Path.{ap, ◌∙◌}
-use mathlib.Core.Logic.{⊎_elim}
-use native.Mathlib.Omega.{arith}
-use lib.ListN.{length}
-use Rattle.rounds.proofs.Turn.{turn_finished, turn_spent}
-use Rattle.rounds.proofs.Running.{Running, running_start, output-long, used-within, more, groups-within, running_on, reply_full}
-use Rattle.rounds.proofs.Round.{call_rules, Going, says, asks, put_at, still_going, goes_on}
+use Rattle.rounds.proofs.Running.{Running}
+use Rattle.rounds.proofs.Round.{call_rules, Going}
 use Rattle.rounds.proofs.run.Given as goal
 
 abbrev pub invariant-loop-q : goal.invariant-loop-q

@@ -1,6 +1,6 @@
 -- `walk::open_ranks` meets its contract: the ranks that were passed are open, and the others are as they were.
 -- Assumes nothing.
-use Prim.Native.Nat.{ℕ, ◌-◌, ◌≤◌}
+use Prim.Native.Nat.{ℕ}
 use mathlib.Core.Path.{◌≡◌, subst}
 use native.Mathlib.Omega.{arith}
 use Rattle.state.specs.NextRank.{RanksOpened}

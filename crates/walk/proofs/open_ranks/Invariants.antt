@@ -1,10 +1,7 @@
 -- `walk::open_ranks` meets its contract: the ranks that were passed are open, and the others are as they were.
 -- Assumes nothing.
-use Prim.Native.Nat.{ℕ, ◌-◌, ◌≤◌}
-use mathlib.Core.Path.{◌≡◌, subst}
-use native.Mathlib.Omega.{arith}
+use Prim.Native.Nat.{◌-◌, ◌≤◌}
 use Rattle.state.specs.NextRank.{RanksOpened}
-use Rattle.state.proofs.Opened.{cleared-none, cleared_more}
 use Rattle.walk.proofs.open_ranks.Given as goal
 
 abbrev pub invariant-loop-i : goal.invariant-loop-i

@@ -1,9 +1,7 @@
 -- `walk::trim` meets its contract: the entries that were passed are r or more.
 -- Assumes nothing.
-use Prim.Native.Nat.{ℕ, ◌+◌, ◌*◌, ◌≤◌, ◌<◌}
 use mathlib.Core.Path.{refl}
 use native.Mathlib.Omega.{arith}
-use lib.ListN.{get_or}
 use Rattle.theory.proofs.Basics.Tests.{from_more}
 use Rattle.walk.proofs.trim.Goals as goal
 

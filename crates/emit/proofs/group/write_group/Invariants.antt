@@ -1,15 +1,10 @@
 -- `emit::group::write_group` meets its contract: after i vertices the slice holds the size and the first i of them.
 -- Assumes nothing.
-use Prim.Native.Nat.{ℕ, ◌+◌, ◌-◌, ◌≤◌}
-use mathlib.Core.Path.{◌≡◌, refl, sym, ap, ◌∙◌}
-use mathlib.Core.List.{List}
-use native.Mathlib.Omega.{arith}
-use native.Mathlib.Numerals.{add-one}
-use lib.ListN.{length, set, get_or, length-set}
-use lib.Seq.{paste, paste-zero, paste-suc}
+use Prim.Native.Nat.{◌-◌, ◌≤◌}
+use mathlib.Core.Path.{◌≡◌}
+use lib.ListN.{length}
+use lib.Seq.{paste}
 use Rattle.theory.specs.Parts.{part}
-use Rattle.theory.proofs.Basics.Parts.{part_length, part_at}
-use Rattle.emit.proofs.Groups.{group_put}
 use Rattle.emit.proofs.group.write_group.Given as goal
 
 abbrev pub invariant-loop-i : goal.invariant-loop-i

@@ -1,7 +1,7 @@
 // Standard input, read to its end.
 ghost use Rattle.std.specs.Prelude.{◌+◌, ◌≤◌, length};
 
-use libc::STDIN_FILENO;
+use std::io::Read;
 
 // How many bytes were read, and whether a read failed. A read that fails is not the end of the text.
 #[derive(Drop)]
@@ -11,31 +11,29 @@ pub struct Got {
 }
 
 // One read into a buffer from a place on.
-fn read_from(text: &mut [u8], from: usize) -> Got
+fn read_from(input: &mut impl Read, text: &mut [u8], from: usize) -> Got
     requires { from ≤ length text.old }
     ensures { from + result.bytes ≤ length text.new }
 {
-    let start = from;
-    let got = libc::read(STDIN_FILENO, &mut text[start..]);
-    if got < 0 {
-        return Got {
+    match input.read(&mut text[from..]) {
+        Ok(bytes) => Got {
+            bytes,
+            failed: false,
+        },
+        Err(_) => Got {
             bytes: 0,
             failed: true,
-        };
-    }
-    Got {
-        bytes: io::count(got, &text[start..]),
-        failed: false,
+        },
     }
 }
 
 // Reads until the buffer is full, the input ends or a read fails. No contract can speak of what is read.
-fn read_all(text: &mut [u8]) -> Got
+fn read_all(input: &mut impl Read, text: &mut [u8]) -> Got
     ensures { result.bytes ≤ length text.new }
 {
     let mut done: usize = 0;
     while done < text.len() {
-        let more = read_from(text, done);
+        let more = read_from(input, text, done);
         if more.failed {
             return Got {
                 bytes: 0,
@@ -57,11 +55,11 @@ fn read_all(text: &mut [u8]) -> Got
 }
 
 // The text where it is wanted; else nothing is read.
-pub fn read_wanted(wanted: bool, text: &mut [u8]) -> Got
+pub fn read_wanted(rt: &impl Input, wanted: bool, text: &mut [u8]) -> Got
     ensures { result.bytes ≤ length text.new }
 {
     if wanted {
-        return read_all(text);
+        return read_all(&mut rt.reader(), text);
     }
     Got {
         bytes: 0,
