@@ -105,9 +105,9 @@ extern "C" {
 
 /* The version of this header and of the archive that belongs to it, by numbers and as text. */
 #define ISOLATED_VERSION_MAJOR 0
-#define ISOLATED_VERSION_MINOR 3
+#define ISOLATED_VERSION_MINOR 2
 #define ISOLATED_VERSION_PATCH 0
-#define ISOLATED_VERSION "0.3.0"
+#define ISOLATED_VERSION "0.2.0"
 
 /* The most vertices of a graph, and the largest factor. */
 #define ISOLATED_VERTICES 1024
@@ -117,7 +117,7 @@ extern "C" {
 #define ISOLATED_WORK(n) (8 * (size_t)(n))
 
 /* The bytes of stack that no call exceeds: a thread that calls needs them beside what it uses itself. */
-#define ISOLATED_STACK 294912
+#define ISOLATED_STACK 196608
 
 /* Notions of isolation. */
 #define ISOLATED_MIN 0

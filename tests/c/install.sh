@@ -10,28 +10,29 @@ built=$repository/target/lib/libisolated.a
 fresh() {
     local name
     rm -rf "$repository" "$commands" "$room/log" "$room/rt.log" "$room/there" "$room/prefix"
-    mkdir -p "$repository"/{tools,include,docs,crates} "$repository"/target/{staticlib,lib,bin} "$commands"
+    mkdir -p "$repository"/{tools,include,docs,crates/one/src} "$repository"/crates/{ffi_c,isolated,outcome}/out "$repository"/target/{lib,bin} "$commands"
     cp install "$repository/install"
-    cp tools/library "$repository/tools/library"
+    cp tools/library tools/programs "$repository/tools"
     cp include/isolated.h "$repository/include/isolated.h"
     cp docs/refusals.tsv "$repository/docs/refusals.tsv"
     echo 'the run part' >"$repository/tools/run"
-    echo 'a source' >"$repository/crates/source"
-    echo 'ffi:' >"$repository/crates.txt"
-    for name in staticlib/libffi.a lib/libisolated.a bin/isolated bin/outcome; do echo "old $name" >"$repository/target/$name"; done
+    echo 'a source' >"$repository/crates/one/src/source"
+    echo 'ffi_c staticlib:' >"$repository/crates.txt"
+    echo old library >"$repository/crates/ffi_c/out/libffi_c.a"
+    for name in lib/libisolated.a bin/isolated bin/outcome; do echo "old $name" >"$repository/target/$name"; done
     for name in bash env dirname readlink realpath rm mkdir cp mv find sed touch chmod cat flock; do ln -s "$(command -v "$name")" "$commands/$name"; done
 }
 
-# The kit's stand-in: notes what it is asked for and builds it, unless the command given here ends it before.
+# The kit's stand-in: notes what it is asked for in which crate and builds it there, unless the command given here ends it before.
 with_kit() {
     cat >"$commands/rt" <<END
 #!/usr/bin/env bash
-echo "\$*" >>"$room/rt.log"
-cd "$repository/target" || exit 1
+name=\${PWD##*/}
+echo "\$* \$name" >>"$room/rt.log"
 ${1:-}
 case \$1 in
-staticlib) echo new library >staticlib/libffi.a ;;
-check) echo new isolated >bin/isolated && echo new outcome >bin/outcome ;;
+lib) echo new library >out/lib\$name.a ;;
+run) echo new \$name >out/\$name ;;
 esac
 END
     chmod +x "$commands/rt"
@@ -51,21 +52,30 @@ makes() {
 }
 
 holds() { [ "$(cat "$1")" = "$2" ]; }
-absent() { [ ! -e "$built" ] && [ ! -e "$repository/target/staticlib/libffi.a" ]; }
+absent() { [ ! -e "$built" ] && [ ! -e "$repository/crates/ffi_c/out/libffi_c.a" ]; }
 older() { touch -d 2000-01-01 "$@"; }
 # Nothing is asked of the kit, or exactly this.
 asked() { if [ $# -eq 0 ]; then [ ! -e "$room/rt.log" ]; else [ "$(cat "$room/rt.log")" = "$1" ]; fi; }
 
 library_is_built() {
-    fresh && with_kit && (cd / && makes 0 "$repository/tools/library") && holds "$built" 'new library' && asked 'staticlib ffi'
+    fresh && with_kit && (cd / && makes 0 "$repository/tools/library") && holds "$built" 'new library' && asked 'lib ffi_c'
 }
 library_fails() {
-    fresh && with_kit 'echo half a library >staticlib/libffi.a; exit 1' && makes 1 "$repository/tools/library" && absent &&
-        grep -q 'rt staticlib ffi failed' "$room/log"
+    fresh && with_kit 'echo half a library >out/libffi_c.a; exit 1' && makes 1 "$repository/tools/library" && absent &&
+        grep -q 'rt lib failed in crates/ffi_c' "$room/log"
 }
 library_is_not_written() { fresh && with_kit 'exit 0' && makes 1 "$repository/tools/library" && absent; }
 library_without_kit() { fresh && makes 1 "$repository/tools/library" && absent && grep -q 'rt is not on the PATH' "$room/log"; }
 library_with_a_word() { fresh && with_kit && makes 1 "$repository/tools/library" ffi && asked; }
+
+programs_are_built() {
+    fresh && with_kit && (cd / && makes 0 "$repository/tools/programs") && holds "$repository/target/bin/isolated" 'new isolated' &&
+        holds "$repository/target/bin/outcome" 'new outcome' && asked 'run isolated
+run outcome'
+}
+programs_fail() { fresh && with_kit 'exit 1' && makes 1 "$repository/tools/programs" && grep -q 'rt run failed in crates/isolated' "$room/log" && asked 'run isolated'; }
+programs_are_not_written() { fresh && with_kit 'exit 0' && makes 1 "$repository/tools/programs" && grep -q 'has left no crates/isolated/out/isolated' "$room/log"; }
+programs_with_a_word() { fresh && with_kit && makes 1 "$repository/tools/programs" isolated && asked; }
 
 # What was installed below a folder: the files, who may run them, and their contents.
 installed_below() {
@@ -92,19 +102,26 @@ install_to_a_relative_path() {
 install_with_two_words() { fresh && makes 2 "$repository/install" "$room/there" here && grep -q 'usage: ./install PREFIX' "$room/log"; }
 install_builds_what_is_missing() {
     fresh && with_kit && rm "$repository"/target/*/* && rmdir "$repository/target/lib" &&
-        (cd / && makes 0 "$repository/install" "$room/there") && newly_installed_below "$room/there" && asked 'staticlib ffi
-check isolated outcome' && [ "$(grep -c "^installed $room/there/" "$room/log")" -eq 7 ]
+        (cd / && makes 0 "$repository/install" "$room/there") && newly_installed_below "$room/there" && asked 'lib ffi_c
+run isolated
+run outcome' && [ "$(grep -c "^installed $room/there/" "$room/log")" -eq 7 ]
 }
 install_builds_what_is_old() {
     fresh && with_kit && older "$repository"/target/*/* && makes 0 "$repository/install" "$room/there" && newly_installed_below "$room/there"
 }
 install_builds_the_programs_alone() {
-    fresh && with_kit && older "$repository/target/bin/outcome" && makes 0 "$repository/install" "$room/there" && asked 'check isolated outcome'
+    fresh && with_kit && older "$repository/target/bin/outcome" && makes 0 "$repository/install" "$room/there" && asked 'run isolated
+run outcome'
 }
 # An unchanged program is not written again by the kit; it counts as built then all the same.
 install_builds_once() {
-    fresh && with_kit 'exit 0' && older "$repository/target/bin/outcome" && makes 0 "$repository/install" "$room/there" && rm "$room/rt.log" &&
+    fresh && with_kit 'exit 0' && echo kept >"$repository/crates/isolated/out/isolated" && echo kept >"$repository/crates/outcome/out/outcome" && older "$repository/target/bin/outcome" && makes 0 "$repository/install" "$room/there" && rm "$room/rt.log" &&
         makes 0 "$repository/install" "$room/there" && asked
+}
+# What rt keeps, and where it stands, may be newer than what was built of it.
+install_past_what_rt_keeps() {
+    fresh && touch -d '1 hour' "$repository"/crates/{ffi_c,isolated,outcome}{,/out{,/kept}} "$repository/crates" && makes 0 "$repository/install" "$room/there" &&
+        old_installed_below "$room/there"
 }
 install_needs_no_kit_for_what_is_built() { fresh && makes 0 "$repository/install" "$room/there" && old_installed_below "$room/there"; }
 install_without_kit() {
@@ -139,8 +156,9 @@ install_that_cannot_write() {
 }
 
 for case in library_is_built library_fails library_is_not_written library_without_kit library_with_a_word \
+    programs_are_built programs_fail programs_are_not_written programs_with_a_word \
     install_without_a_word install_to_a_relative_path install_with_two_words install_builds_what_is_missing install_builds_what_is_old \
-    install_builds_the_programs_alone install_builds_once install_needs_no_kit_for_what_is_built install_without_kit install_after_a_failed_build \
+    install_builds_the_programs_alone install_builds_once install_past_what_rt_keeps install_needs_no_kit_for_what_is_built install_without_kit install_after_a_failed_build \
     install_of_a_lent_library install_of_no_lent_library install_below_destdir install_replaces_in_one_move install_that_cannot_write; do
     try "$case: not as it should be" "$case"
 done

@@ -300,7 +300,7 @@ int main(int count, char **words) {
     notions_and_kinds();
     stops_and_positions();
     version();
-    IS(ISOLATED_STACK, 294912); /* tried in stack.c */
+    IS(ISOLATED_STACK, 196608); /* tried in stack.c */
     hold("the program's number is the one argument", count == 2);
     SAME(strtoul(words[1], NULL, 10), ISOLATED_REFUSED_TEXT_LENGTH, 41);
     return 0;

@@ -26,10 +26,10 @@ static int answered;        /* whether the answer was the one expected */
 static void join(size_t u, size_t v) { table[u * N + v] = table[v * N + u] = 1; }
 
 /*
- * Vertex 0 alone is a group at factor C, and before the search says so it has added all its C - 1 neighbours but the
- * last, one upon the other, and tried that. All but the last have degree N - 2: at least C neighbours outside each
- * smaller set, so that none is isolated, but C - 1 outside the whole, so that the search goes on to the last. That has
- * degree N - 1, and so not even the whole is isolated.
+ * Vertex 0 alone is a group at factor C, and before the search says so it has added all its C - 1 neighbours, one upon
+ * the other. All but the last of these have degree N - 2: at least C neighbours outside each smaller set, so that none
+ * is isolated, but C - 1 outside the whole, so that the search goes on to the last. That has degree N - 1, and so
+ * not even the whole is isolated.
  * No search is deeper: a set that it goes on from is not isolated, so a member has at least c neighbours outside and
  * the set at most n - c members, one of them not added; and what it adds are common neighbours, fewer than c.
  */

@@ -1,4 +1,6 @@
 // The group of a position: put out where all ranks are decided, the taken set qualifies and its entries fit.
+#![tactic(auto)]
+
 mod group;
 
 ghost use Rattle.std.specs.Prelude.{◌≤◌, length};

@@ -1,5 +1,6 @@
-// The calls as C and Rust link them: a static library of exported functions. Each hands its arguments on and repeats the promise of what it calls.
-// A slice passes as its address and its number of elements.
+// The calls of the library under the names that C and Rust link. Each hands its arguments on and repeats the promise of what it calls.
+#![tactic(auto)]
+
 ghost use Rattle.std.specs.Prelude.{true, false};
 ghost use Rattle.model.specs.Groups.{settings};
 ghost use Rattle.graph.specs.Table.{lent};
@@ -14,8 +15,7 @@ use query::SetAnswer;
 use rounds::PageAnswer;
 
 // The page call.
-#[unsafe(no_mangle)]
-pub extern "C" fn isolated_page(
+pub fn isolated_page(
     table: &[u8],
     degrees: &[u16],
     position: &mut [u8],
@@ -36,8 +36,7 @@ pub extern "C" fn isolated_page(
 }
 
 // The set query.
-#[unsafe(no_mangle)]
-pub extern "C" fn isolated_set_query(
+pub fn isolated_set_query(
     table: &[u8],
     degrees: &[u16],
     set: &[u8],
@@ -53,16 +52,14 @@ pub extern "C" fn isolated_set_query(
 }
 
 // The text reader.
-#[unsafe(no_mangle)]
-pub extern "C" fn isolated_read_text(text: &[u8], table: &mut [u8]) -> TextAnswer
+pub fn isolated_read_text(text: &[u8], table: &mut [u8]) -> TextAnswer
     ensures { ReadsAs text.now table.old table.new result }
 {
     dimacs::read_text(text, table)
 }
 
 // The edit that joins a pair.
-#[unsafe(no_mangle)]
-pub extern "C" fn isolated_join(
+pub fn isolated_join(
     table: &mut [u8],
     degrees: &mut [u16],
     n: usize,
@@ -75,8 +72,7 @@ pub extern "C" fn isolated_join(
 }
 
 // The edit that parts a pair.
-#[unsafe(no_mangle)]
-pub extern "C" fn isolated_part(
+pub fn isolated_part(
     table: &mut [u8],
     degrees: &mut [u16],
     n: usize,
@@ -89,8 +85,7 @@ pub extern "C" fn isolated_part(
 }
 
 // The list of the degrees.
-#[unsafe(no_mangle)]
-pub extern "C" fn isolated_degrees(table: &[u8], degrees: &mut [u16], n: usize) -> u32
+pub fn isolated_degrees(table: &[u8], degrees: &mut [u16], n: usize) -> u32
     ensures { ListReplies n table.now degrees.old result degrees.new }
 {
     edits::list_degrees(table, degrees, n)

@@ -1,4 +1,6 @@
 // The listing of a graph: page after page until one says Finished or a write fails, each printed and written at once.
+#![tactic(auto)]
+
 pub mod totals;
 
 ghost use Rattle.std.specs.Prelude.{◌≡◌, ◌*◌, ◌≤◌, length, take};
@@ -8,23 +10,22 @@ ghost use Rattle.listing.specs.List.{Turned, ListBegins, Ran};
 
 use crate::totals::{Listed, held_add};
 use isolation::Settings;
-use libc::STDOUT_FILENO;
 use print::print_entries;
 
 // Writes the first k bytes of a buffer to standard output, and answers whether all of them were written. No contract can speak of what a write does;
 // what is handed to it is said by those who call this, in what they require.
-pub fn write_first(bytes: &[u8], k: usize) -> bool
+pub fn write_first(rt: &impl Print, bytes: &[u8], k: usize) -> bool
     requires { k ≤ length bytes.now }
 {
-    io::write_all(STDOUT_FILENO, &bytes[..k])
+    rt.write_all(&bytes[..k]).is_ok()
 }
 
 // Writes what is printed of a page's used output entries, the first k bytes of a buffer, and answers whether all of it was written.
-fn write_page(bytes: &[u8], k: usize, output: &[u16], used: usize) -> bool
+fn write_page(rt: &impl Print, bytes: &[u8], k: usize, output: &[u16], used: usize) -> bool
     requires k_in_bounds { k ≤ length bytes.now }
     requires bytes_value { take k bytes.now ≡ printed (take used output.now) }
 {
-    write_first(bytes, k)
+    write_first(rt, bytes, k)
 }
 
 // What a page brought: whether it said Finished, its groups and steps, its used output entries, and how many bytes are printed of them.
@@ -68,6 +69,7 @@ fn one_page(
 // Lists all groups of a graph from the fresh position on, and answers the totals and whether the list is whole. At the first write that fails it
 // ends, and the list is cut. Each page makes a step, so this ends.
 pub fn list_all(
+    rt: &impl Print,
     table: &[u8],
     degrees: &[u16],
     position: &mut [u8],
@@ -84,7 +86,7 @@ pub fn list_all(
     let mut steps: u32 = 0;
     loop {
         let t = one_page(table, degrees, position, output, work, bytes, n, s);
-        let written = write_page(bytes, t.printed, output, t.used);
+        let written = write_page(rt, bytes, t.printed, output, t.used);
         groups = held_add(groups, t.groups);
         steps = held_add(steps, t.steps);
         if !written {

@@ -3,7 +3,7 @@ ghost use Rattle.std.specs.Prelude.{◌≡◌, ◌+◌};
 ghost use Rattle.model.specs.Program.{held};
 
 // The groups and the steps of all pages, and whether the list is whole: a page said Finished, and no write failed.
-#[derive(Drop)]
+#[derive(Clone, Copy)]
 pub struct Listed {
     pub groups: u32,
     pub steps: u32,

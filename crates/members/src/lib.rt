@@ -1,4 +1,6 @@
 // The members of a set that is lent as bytes: listed in the work slice, whether they are pairwise joined, their numbers and their common neighbours.
+#![tactic(auto)]
+
 ghost use Rattle.std.specs.Prelude.{◌≡◌, length};
 ghost use Rattle.model.specs.Below.{passing};
 ghost use Rattle.model.specs.Listing.{is};

@@ -1,4 +1,6 @@
 // The program once more, which at its end also tells its outcome on descriptor 3: a program of Rattle has no exit status.
-fn main() {
-    cli::program::tell(3, cli::program::program());
+#![tactic(auto)]
+
+fn main(rt: HostRuntime) {
+    cli::program::tell(&rt, 3, cli::program::program(&rt));
 }

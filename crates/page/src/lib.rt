@@ -1,4 +1,6 @@
 // The page call: what it is handed is tested, and then the walk goes on from the position it holds, with its groups put into the output.
+#![tactic(auto)]
+
 ghost use Rattle.std.specs.Prelude.{◌≡◌, length};
 ghost use Rattle.model.specs.Groups.{settings};
 ghost use Rattle.graph.specs.Table.{lent};

@@ -1,5 +1,7 @@
 // The refusals of a position, 21 to 23: document 01, "Turned back by the state". They read the table, the degrees, the rank order and the position, and write only the
 // memory that the state of the position is built in. Document 01, "The walk": a position has one byte a rank, 0 open, 1 taken and 2 left.
+#![tactic(auto)]
+
 ghost use Rattle.std.specs.Prelude.{◌≡◌, ◌*◌, ◌≤◌, length};
 ghost use Rattle.model.specs.Below.{least};
 ghost use Rattle.model.specs.Listing.{is};

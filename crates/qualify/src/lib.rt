@@ -1,5 +1,7 @@
 // Whether the taken set of a position qualifies, from what the walk's state keeps: no set is built and no vertex outside it is looked at but the left
 // neighbours of the pivot.
+#![tactic(auto)]
+
 ghost use Rattle.std.specs.Prelude.{◌≡◌};
 ghost use Rattle.qualify.specs.Qualify.{Sifts, Sifted, read_tally, TallyFits, Asks, SaysQualifies};
 

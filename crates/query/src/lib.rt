@@ -1,4 +1,6 @@
 // The set query.
+#![tactic(auto)]
+
 ghost use Rattle.std.specs.Prelude.{◌≡◌};
 ghost use Rattle.model.specs.Calls.{refuse_query};
 ghost use Rattle.graph.specs.Table.{lent, graph_of};

@@ -8,7 +8,7 @@ use crate::words::{Words, settings_of};
 use isolation::Settings;
 
 // A refusal's number and line, or the settings and the number of vertices of the graph to list.
-#[derive(Drop)]
+#[derive(Clone, Copy)]
 pub enum Verdict {
     Refused(u32, usize),
     Listing(Settings, usize),

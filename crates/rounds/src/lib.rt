@@ -1,4 +1,6 @@
 // The rounds of a page: the loop that writes groups and makes steps until the walk is finished, the budget is spent or the output is full.
+#![tactic(auto)]
+
 ghost use Rattle.std.specs.Prelude.{◌≡◌, length};
 ghost use Rattle.model.specs.Walk.{page};
 ghost use Rattle.model.specs.Listing.{rules};

@@ -1,5 +1,7 @@
 // The walk in steps: the position, the state and the work slice changed by one step. A step looks at the taken vertices and at what it decides or opens,
 // and at nothing else of the position.
+#![tactic(auto)]
+
 ghost use Rattle.std.specs.Prelude.{◌≡◌, false, ◌+◌, ◌≤◌, ◌<◌, length};
 ghost use Rattle.model.specs.Walk.{finished, advance, retreat};
 ghost use Rattle.model.specs.Listing.{apart};

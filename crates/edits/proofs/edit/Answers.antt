@@ -33,19 +33,15 @@ write_pair-requires c = can_write (accepted (goal.at.write_pair-requires c).Else
 
 pub move_degree-requires : goal.move_degree-requires
 move_degree-requires c =
-    let e = c in
     can_move_to (accepted (goal.at.move_degree-requires c).Else-refusal-ne0) _ (beq_false _ _ (other (goal.at.move_degree-requires c).Else-joined-joins))
 
 pub move_degree-requires-2 : goal.move_degree-requires-2
 move_degree-requires-2 c =
-    let m = c in
-    let e = m in
-    can_move_from (accepted (goal.at.move_degree-requires-2 c).Else-refusal-ne0) _ (beq_false _ _ (other (goal.at.move_degree-requires-2 c).Else-joined-joins)) m.move_degree.ensures
+    can_move_from (accepted (goal.at.move_degree-requires-2 c).Else-refusal-ne0) _ (beq_false _ _ (other (goal.at.move_degree-requires-2 c).Else-joined-joins)) c.move_degree.ensures
 
 pub returns : goal.returns
 returns c =
-    let m₂ = c in
-    let m = m₂.before.before.before.before in
+    let m = c.before.before.before.before in
     let w = m in
     let e = w in
-    replies-done (accepted (goal.at.returns c).Else-refusal-ne0).passes (other (goal.at.returns c).Else-joined-joins) w.write_pair.ensures m.move_degree.ensures m₂.move_degree-2.ensures
+    replies-done (accepted (goal.at.returns c).Else-refusal-ne0).passes (other (goal.at.returns c).Else-joined-joins) w.write_pair.ensures m.move_degree.ensures c.move_degree-2.ensures

@@ -9,20 +9,16 @@ returns-then-of_lent-ne0 c = by_lent _ _ _ c.lent_refusal-of_lent.ensures c.if-o
 
 pub returns-then-n-u : goal.returns-then-n-u
 returns-then-n-u c =
-    let l = c in
-    by_range _ _ _ l.lent_refusal-of_lent.ensures l.if-of_lent-ne0.false (inl c.if-n-u.true)
+    by_range _ _ _ c.lent_refusal-of_lent.ensures c.if-of_lent-ne0.false (inl c.if-n-u.true)
 
 pub returns-then-n-v : goal.returns-then-n-v
 returns-then-n-v c =
-    let l = c in
-    by_range _ _ _ l.lent_refusal-of_lent.ensures l.if-of_lent-ne0.false (inr c.if-n-v.true)
+    by_range _ _ _ c.lent_refusal-of_lent.ensures c.if-of_lent-ne0.false (inr c.if-n-v.true)
 
 pub returns-then-u-v : goal.returns-then-u-v
 returns-then-u-v c =
-    let l = c in
-    by_ends _ _ _ l.lent_refusal-of_lent.ensures l.if-of_lent-ne0.false c.if-n-u.false c.if-n-v.false c.if-u-v.true
+    by_ends _ _ _ c.lent_refusal-of_lent.ensures c.if-of_lent-ne0.false c.if-n-u.false c.if-n-v.false c.if-u-v.true
 
 pub returns : goal.returns
 returns c =
-    let l = c in
-    by_none _ _ _ l.lent_refusal-of_lent.ensures l.if-of_lent-ne0.false c.if-n-u.false c.if-n-v.false c.if-u-v.false
+    by_none _ _ _ c.lent_refusal-of_lent.ensures c.if-of_lent-ne0.false c.if-n-u.false c.if-n-v.false c.if-u-v.false

@@ -11,18 +11,12 @@ returns-then-of_table-ne0 c = lists_refused c.table_refusal-of_table.ensures c.i
 
 pub returns-then-degrees-n : goal.returns-then-degrees-n
 returns-then-degrees-n c =
-    let t = c in
-    lists_other-length t.table_refusal-of_table.ensures t.if-of_table-ne0.false (λ z. omega (arith, c.if-degrees-n.true))
+    lists_other-length c.table_refusal-of_table.ensures c.if-of_table-ne0.false (λ z. omega (arith, c.if-degrees-n.true))
 
 pub fill_degrees-requires : goal.fill_degrees-requires
 fill_degrees-requires c =
-    let l = c in
-    let t = l in
-    (table_fits _ _ (sym t.table_refusal-of_table.ensures ∙ t.if-of_table-ne0.false), omega (arith, l.if-degrees-n.false))
+    (table_fits _ _ (sym c.table_refusal-of_table.ensures ∙ c.if-of_table-ne0.false), omega (arith, c.if-degrees-n.false))
 
 pub returns : goal.returns
 returns c =
-    let f = c in
-    let l = f in
-    let t = l in
-    lists_done t.table_refusal-of_table.ensures t.if-of_table-ne0.false (omega (arith, l.if-degrees-n.false)) f.fill_degrees.ensures
+    lists_done c.table_refusal-of_table.ensures c.if-of_table-ne0.false (omega (arith, c.if-degrees-n.false)) c.fill_degrees.ensures

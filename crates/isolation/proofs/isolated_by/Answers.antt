@@ -6,9 +6,7 @@ use Rattle.isolation.proofs.isolated_by.Goals as goal
 
 pub returns-then-s-eq0 : goal.returns-then-s-eq0
 returns-then-s-eq0 c =
-    let min = c in
-    let others = min in
-    isolated_min_lem _ _ _ _ _ _ min.if-s-eq0.true others.less-others.ensures
+    isolated_min_lem _ _ _ _ _ _ c.if-s-eq0.true c.less-others.ensures
     c.less.ensures c.within.ensures
 
 pub overflow_mul-t : goal.overflow_mul-t
@@ -16,15 +14,10 @@ overflow_mul-t c = omega (arith, product_small c.args.t.members c.less-others.re
 
 pub returns-then-s-eq1 : goal.returns-then-s-eq1
 returns-then-s-eq1 c =
-    let avg = c in
-    let others = avg in
-    isolated_avg_lem _ _ _ _ _ _ avg.if-s-eq1.true others.less-others.ensures
+    isolated_avg_lem _ _ _ _ _ _ c.if-s-eq1.true c.less-others.ensures
     c.less-then-s-eq1.ensures c.within-then-s-eq1.ensures
 
 pub returns : goal.returns
 returns c =
-    let max = c in
-    let min = max in
-    let others = min in
-    isolated_max_lem _ _ _ _ _ _ min.if-s-eq0.false max.if-s-eq1.false
-    others.less-others.ensures c.less-2.ensures c.within-2.ensures
+    isolated_max_lem _ _ _ _ _ _ c.if-s-eq0.false c.if-s-eq1.false
+    c.less-others.ensures c.less-2.ensures c.within-2.ensures

@@ -1,15 +1,12 @@
 -- `larger::joined_to_all` meets its contract: v is joined to each vertex that was passed.
 -- Assumes nothing.
-use Prim.Native.Nat.{◌+◌, ◌-◌, ◌≤◌}
-use mathlib.Core.Path.{◌≡◌, sym, ◌∙◌}
+use Prim.Native.Nat.{◌-◌, ◌≤◌}
+use mathlib.Core.Path.{◌≡◌}
 use mathlib.Core.Bool.{true}
-use native.Mathlib.Omega.{arith}
 use lib.ListN.{take}
-use borrow.Author.Tests.{not-true, not-false}
 use Rattle.theory.specs.Search.{joined_all}
 use Rattle.theory.specs.Parts.{part}
 use Rattle.graph.specs.Table.{graph_of}
-use Rattle.larger.proofs.Joined.{all_none, all_more, all_apart, all_end}
 use Rattle.larger.proofs.joined_to_all.Given as goal
 
 abbrev pub invariant-loop-i : goal.invariant-loop-i

@@ -1,12 +1,6 @@
 -- `state::copy` meets its contract: the entries that were passed are copied.
 -- Assumes nothing.
-use Prim.Native.Nat.{ℕ, ◌+◌, ◌-◌, ◌≤◌, ◌<◌}
-use mathlib.Core.Path.{◌≡◌, refl, sym, ap, ◌∙◌, subst}
-use mathlib.Core.List.{List, [], ◌∷◌, ◌++◌}
-use native.Mathlib.Numerals.{add-one}
-use native.Mathlib.Omega.{arith}
-use lib.ListN.{length, get_or, take, set, length-set}
-use lib.Seq.{take-suc, take-suc-set}
+use Prim.Native.Nat.{◌-◌, ◌≤◌}
 use Rattle.state.specs.State.{Copied}
 use Rattle.state.proofs.copy.Given as goal
 

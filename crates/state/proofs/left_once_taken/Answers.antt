@@ -1,12 +1,9 @@
 -- `state::left_once_taken` meets its contract: part 2 holds the ranks that were passed and are adjacent to d.
 -- Assumes nothing.
-use Prim.Native.Nat.{◌-◌, ◌*◌, ◌≤◌}
+use Prim.Native.Nat.{◌*◌}
 use mathlib.Core.Path.{sym, ◌∙◌}
-use mathlib.Core.Logic.{⊎_elim}
 use native.Mathlib.Omega.{arith}
-use Rattle.model.specs.Below.{passing}
 use Rattle.model.specs.Listing.{adjacent}
-use Rattle.theory.specs.Parts.{Filled}
 use Rattle.theory.proofs.Basics.Parts.{filled_none, filled_push, filled_pass, filled_same}
 use Rattle.theory.proofs.Basics.Passing.{passing-none, passing-hit, passing_miss}
 use Rattle.graph.specs.Table.{graph_of}
@@ -41,17 +38,15 @@ bounds-work-n c =
 
 pub loop-i-preserved : goal.loop-i-preserved
 loop-i-preserved c =
-    let b = c in
-    let q = b.requires in
-    let n = b.args.n in
-    let o = c in
-    let i = o.loop-i.i in
-    let inv = o.loop-i.invariant in
-    let p = adjacent (graph_of n b.args.table.now) b.args.s.decided in
-    let a = sym (adjacent_by _ b.args.s.decided i (vertex_read q.0 o.vertex_at-v.ensures).0 (vertex_read q.0 c.vertex_at-u.ensures).0) ∙ sym c.joined.ensures in
+    let q = c.requires in
+    let n = c.args.n in
+    let i = c.loop-i.i in
+    let inv = c.loop-i.invariant in
+    let p = adjacent (graph_of n c.args.table.now) c.args.s.decided in
+    let a = sym (adjacent_by _ c.args.s.decided i (vertex_read q.0 c.vertex_at-v.ensures).0 (vertex_read q.0 c.vertex_at-u.ensures).0) ∙ sym c.joined.ensures in
     elim c.if-joined.branch [
-      then-joined y ↦ (omega arith, omega arith, filled_same y.work-is y.m-is (filled_push (2 * n) (3 * n) b.args.work.now inv.2 i _ (passing-hit p i (a ∙ y.if-joined.true)) (omega arith) (omega (arith, q.1.1.room))))
-    | else-joined y ↦ (omega arith, omega arith, filled_same y.work-is y.m-is (filled_pass _ _ _ inv.2 _ (passing_miss p i (a ∙ y.if-joined.false))))
+      | then-joined y ↦ (omega arith, omega arith, filled_same y.work-is y.m-is (filled_push (2 * n) (3 * n) c.args.work.now inv.2 i _ (passing-hit p i (a ∙ y.if-joined.true)) (omega arith) (omega (arith, q.1.1.room))))
+      | else-joined y ↦ (omega arith, omega arith, filled_same y.work-is y.m-is (filled_pass _ _ _ inv.2 _ (passing_miss p i (a ∙ y.if-joined.false))))
     ]
 
 pub shape_of-work : goal.shape_of-work

@@ -1,17 +1,10 @@
 -- `state::left_once_taken` meets its contract: part 2 holds the ranks that were passed and are adjacent to d.
 -- Assumes nothing.
 use Prim.Native.Nat.{◌-◌, ◌*◌, ◌≤◌}
-use mathlib.Core.Path.{sym, ◌∙◌}
-use mathlib.Core.Logic.{⊎_elim}
-use native.Mathlib.Omega.{arith}
 use Rattle.model.specs.Below.{passing}
 use Rattle.model.specs.Listing.{adjacent}
 use Rattle.theory.specs.Parts.{Filled}
-use Rattle.theory.proofs.Basics.Parts.{filled_none, filled_push, filled_pass, filled_same}
-use Rattle.theory.proofs.Basics.Passing.{passing-none, passing-hit, passing_miss}
 use Rattle.graph.specs.Table.{graph_of}
-use Rattle.ranks.proofs.Ranks.{order-room, vertex_read}
-use Rattle.state.proofs.RankPushed.{adjacent_by, left-stays, left-found}
 use Rattle.state.proofs.left_once_taken.Given as goal
 
 abbrev pub invariant-loop-i : goal.invariant-loop-i

@@ -1,11 +1,10 @@
 -- `state::misses_one` meets its contract: the vertices that were passed are joined to v.
 -- Assumes nothing.
-use Prim.Native.Nat.{ℕ, ◌+◌, ◌-◌, ◌≤◌, ◌<◌}
+use Prim.Native.Nat.{ℕ, ◌-◌}
 use mathlib.Core.Path.{◌≡◌, sym, ap, ◌∙◌}
-use mathlib.Core.Bool.{Bool, not, false}
+use mathlib.Core.Bool.{Bool, not}
 use mathlib.Core.List.{List}
 use native.Mathlib.Omega.{arith}
-use lib.ListN.{get_or}
 use Rattle.theory.proofs.Basics.Tests.{from_more, any_found, any_none}
 use Rattle.graph.specs.Table.{graph_of}
 use Rattle.state.proofs.misses_one.Goals as goal
@@ -19,9 +18,8 @@ loop-j-init c = (omega arith, λ i x y. absurd (omega arith))
 
 pub joined-requires : goal.joined-requires
 joined-requires c =
-    let b = c in
-    let l = b.requires.vertices (c.loop-j.j - 1) (omega arith) in
-    (b.requires.fits, omega (arith, c.entry_at-u.ensures), b.requires.vertex)
+    let l = c.requires.vertices (c.loop-j.j - 1) (omega arith) in
+    (c.requires.fits, omega (arith, c.entry_at-u.ensures), c.requires.vertex)
 
 pub returns-then-not-joined : goal.returns-then-not-joined
 returns-then-not-joined c =

@@ -1,12 +1,9 @@
 -- `state::misses_one` meets its contract: the vertices that were passed are joined to v.
 -- Assumes nothing.
-use Prim.Native.Nat.{ℕ, ◌+◌, ◌-◌, ◌≤◌, ◌<◌}
-use mathlib.Core.Path.{◌≡◌, sym, ap, ◌∙◌}
-use mathlib.Core.Bool.{Bool, not, false}
-use mathlib.Core.List.{List}
-use native.Mathlib.Omega.{arith}
+use Prim.Native.Nat.{ℕ, ◌+◌, ◌≤◌, ◌<◌}
+use mathlib.Core.Path.{◌≡◌}
+use mathlib.Core.Bool.{not, false}
 use lib.ListN.{get_or}
-use Rattle.theory.proofs.Basics.Tests.{from_more, any_found, any_none}
 use Rattle.graph.specs.Table.{graph_of}
 use Rattle.state.proofs.misses_one.Given as goal
 

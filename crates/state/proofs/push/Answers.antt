@@ -9,14 +9,12 @@ use Rattle.state.proofs.push.Goals as goal
 
 pub returns-then-mark-eq1 : goal.returns-then-mark-eq1
 returns-then-mark-eq1 c =
-    let b = c in
-    let e : b.args.mark ≡ 1 = omega arith in
-    subst⁻¹ (λ (x : ℕ). Pushed (graph_of b.args.n b.args.table.now) x b.args.work.now b.args.s c.push_taken.new.work c.push_taken.result)
+    let e : c.args.mark ≡ 1 = omega arith in
+    subst⁻¹ (λ (x : ℕ). Pushed (graph_of c.args.n c.args.table.now) x c.args.work.now c.args.s c.push_taken.new.work c.push_taken.result)
     e c.push_taken.ensures
 
 pub returns : goal.returns
 returns c =
-    let b = c in
-    let e : b.args.mark ≡ 2 = omega arith in
-    subst⁻¹ (λ (x : ℕ). Pushed (graph_of b.args.n b.args.table.now) x b.args.work.now b.args.s c.push_left.new.work c.push_left.result)
+    let e : c.args.mark ≡ 2 = omega arith in
+    subst⁻¹ (λ (x : ℕ). Pushed (graph_of c.args.n c.args.table.now) x c.args.work.now c.args.s c.push_left.new.work c.push_left.result)
     e c.push_left.ensures

@@ -1,15 +1,11 @@
 -- `state::rebuild` meets its contract: the state stands for the position with the ranks from `decided` on opened.
 -- Assumes nothing.
-use Prim.Native.Nat.{ℕ, ◌+◌, ◌-◌, ◌≤◌, ◌<◌}
-use mathlib.Core.Path.{◌≡◌, refl, ap, ◌∙◌, subst, subst⁻¹}
-use native.Mathlib.Omega.{arith}
+use Prim.Native.Nat.{◌-◌, ◌≤◌}
+use mathlib.Core.Path.{◌≡◌}
 use lib.ListN.{length}
-use Rattle.model.specs.Walk.{Position}
-use Rattle.model.specs.Listing.{is}
-use Rattle.theory.proofs.Walk.Scans.{least_le, decided-below}
 use Rattle.graph.specs.Table.{graph_of}
 use Rattle.state.specs.State.{Stands}
-use Rattle.state.proofs.Opened.{opened, fresh-stands, opened_decides, reopened-is, bytes_most}
+use Rattle.state.proofs.Opened.{opened}
 use Rattle.state.proofs.rebuild.Given as goal
 
 abbrev pub invariant-loop-s : goal.invariant-loop-s

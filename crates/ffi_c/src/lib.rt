@@ -1,0 +1,99 @@
+// The calls as C and Rust link them: a static library of exported functions. Each hands its arguments on to the function of its name in crate `ffi`, and
+// repeats its promise. A slice passes as its address and its number of elements.
+#![tactic(auto)]
+
+ghost use Rattle.std.specs.Prelude.{true, false};
+ghost use Rattle.model.specs.Groups.{settings};
+ghost use Rattle.graph.specs.Table.{lent};
+ghost use Rattle.dimacs.specs.Reply.{ReadsAs};
+ghost use Rattle.edits.specs.Edits.{EditReplies, ListReplies};
+ghost use Rattle.page.specs.Call.{PageCalled};
+ghost use Rattle.query.specs.Query.{Answers};
+
+use dimacs::TextAnswer;
+use edits::EditAnswer;
+use query::SetAnswer;
+use rounds::PageAnswer;
+
+// The page call.
+#[unsafe(no_mangle)]
+pub extern "C" fn isolated_page(
+    table: &[u8],
+    degrees: &[u16],
+    position: &mut [u8],
+    output: &mut [u16],
+    work: &mut [u16],
+    n: usize,
+    notion: u32,
+    kind: u32,
+    c: u32,
+    budget: u32,
+) -> PageAnswer
+    ensures { PageCalled (lent n table.now degrees.now) (settings notion kind c) budget position.old output.old work.old
+        result position.new output.new work.new }
+{
+    ffi::isolated_page(
+        table, degrees, position, output, work, n, notion, kind, c, budget,
+    )
+}
+
+// The set query.
+#[unsafe(no_mangle)]
+pub extern "C" fn isolated_set_query(
+    table: &[u8],
+    degrees: &[u16],
+    set: &[u8],
+    work: &mut [u16],
+    n: usize,
+    notion: u32,
+    kind: u32,
+    c: u32,
+) -> SetAnswer
+    ensures { Answers (lent n table.now degrees.now) set.now work.old work.new notion kind c result }
+{
+    ffi::isolated_set_query(table, degrees, set, work, n, notion, kind, c)
+}
+
+// The text reader.
+#[unsafe(no_mangle)]
+pub extern "C" fn isolated_read_text(text: &[u8], table: &mut [u8]) -> TextAnswer
+    ensures { ReadsAs text.now table.old table.new result }
+{
+    ffi::isolated_read_text(text, table)
+}
+
+// The edit that joins a pair.
+#[unsafe(no_mangle)]
+pub extern "C" fn isolated_join(
+    table: &mut [u8],
+    degrees: &mut [u16],
+    n: usize,
+    u: usize,
+    v: usize,
+) -> EditAnswer
+    ensures { EditReplies true n table.old degrees.old u v result table.new degrees.new }
+{
+    ffi::isolated_join(table, degrees, n, u, v)
+}
+
+// The edit that parts a pair.
+#[unsafe(no_mangle)]
+pub extern "C" fn isolated_part(
+    table: &mut [u8],
+    degrees: &mut [u16],
+    n: usize,
+    u: usize,
+    v: usize,
+) -> EditAnswer
+    ensures { EditReplies false n table.old degrees.old u v result table.new degrees.new }
+{
+    ffi::isolated_part(table, degrees, n, u, v)
+}
+
+// The list of the degrees.
+#[unsafe(no_mangle)]
+pub extern "C" fn isolated_degrees(table: &[u8], degrees: &mut [u16], n: usize) -> u32
+    ensures { ListReplies n table.now degrees.old result degrees.new }
+{
+    ffi::isolated_degrees(table, degrees, n)
+}
