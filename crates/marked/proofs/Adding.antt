@@ -21,7 +21,7 @@ use Rattle.isolation.specs.declared.Settings.{Settings}
 use Rattle.isolation.specs.declared.Tally.{Tally}
 use Rattle.isolation.specs.Numbers.{with_member, isolated_of}
 use Rattle.marked.specs.Numbers.{hopeless_of, find_of, with_of}
-use Rattle.marked.specs.Places.{candidates_in, marks_in, KeptButMarks, DropFits, Dropped, ReturnFits, Returned}
+use Rattle.marked.specs.Places.{candidates_in, marks_in, KeptButMarks, Dropped, Returned}
 use Rattle.marked.specs.Search.{SearchFits, Room, RoomWith, Restored, Searched, SearchedWith}
 
 -- what is left behind where the answer is yes, and where it is no and the slice is as it was
@@ -63,19 +63,6 @@ module _ {n : ℕ} {t degrees w : List ℕ} {s : Settings} {y : Tally} {low v i 
         let e = degree-is.1 in
         let f = lent.table.small in
         omega arith
-
-    depth_small : z.members ≤ 1024
-    depth_small = let p = depth_is in let f = room.more in let g = lent.table.small in omega arith
-
-    -- marks of any depth up to this one can be written
-    pub drop-fits : (depth : ℕ) → depth ≤ z.members → DropFits n t w v depth i m
-    drop-fits depth h =
-        record {
-          marks-fit = record { few = state.few; order = state.order; deep = let d = depth_small in omega arith; parts = lent.parts };
-          table = lent.table;
-          vertex = room.vertex;
-          candidates = state.candidates;
-        }
 
     -- found, where the set with v is isolated
     pub with_found : true ≡ isolated_of s z → SearchedWith n t w w s y low v i m true
@@ -163,9 +150,6 @@ module _ {n : ℕ} {t degrees w : List ℕ} {s : Settings} {y : Tally} {low v i 
             ∙ ap (λ (x : Tally). find_of graph s low (candidates_in n w) (drop_out graph (candidates_in n w) v (y.members + 1) (marks_in n w)) x i (m - i)) with_degree_lem
             ∙ sym (with_below _ _ _ _ _ _ _ _ _ _ _ _ _ (not_here below.apart) (leaves_is below.apart ∙ below.hope))
 
-        pub below_length : length w₂ ≡ length w
-        below_length = deep.restored.kept.length-kept ∙ drops.kept.length-kept
-
         pub below-found : r ≡ true → SearchedWith n t w w₂ s y low v i m true
         below-found e =
             record {
@@ -177,17 +161,6 @@ module _ {n : ℕ} {t degrees w : List ℕ} {s : Settings} {y : Tally} {low v i 
         module _ (none : r ≡ false) where
           undone : w₂ ≡ w₁
           undone = deep.restored.on_no none
-
-          pub return_fits : (upto : ℕ) → i ≤ upto → upto ≤ m → ReturnFits n w₂ z.members i upto
-          return_fits upto h l =
-              subst (λ (u : List ℕ). ReturnFits n u z.members i upto) (sym undone)
-              record {
-                marks-fit = record { few = let f = state.few in omega arith; order = h; deep = depth_small; parts = lent_below.parts };
-                none = λ e h q.
-                    let k = drops.kept.below (4 * n + e) (omega arith) in
-                    let f = below_depth e (let o = state.order in omega arith) in
-                    omega arith;
-              }
 
           pub below_none : {w₃ : List ℕ} → Returned n w₂ w₃ z.members i m → SearchedWith n t w w₃ s y low v i m false
           below_none {w₃} back = record { answer = sym none ∙ answer-below; restored = restored_no same }

@@ -1,12 +1,11 @@
 -- The search for a larger isolated clique over marks, one candidate at a time.
 -- Assumes nothing.
 use Prim.Native.Nat.{ℕ, ◌+◌, ◌-◌, ◌≤◌, ◌<◌}
-use mathlib.Core.Path.{◌≡◌, refl, sym, ap, ◌∙◌, subst}
+use mathlib.Core.Path.{◌≡◌, sym, ap, ◌∙◌, subst}
 use mathlib.Core.Bool.{Bool, true, false}
 use mathlib.Core.List.{List}
 use mathlib.Core.Logic.{◌≢◌}
 use native.Mathlib.Omega.{arith}
-use lib.ListN.{length}
 use Rattle.model.specs.Graph.{Graph}
 use Rattle.marked.specs.Marks.{still_in, count_in}
 use Rattle.theory.proofs.Basics.Tests.{fails}
@@ -30,10 +29,6 @@ pub record At (n : ℕ) (t degrees w₀ : List ℕ) (s : Settings) (y : Tally) (
   pub count : still ≡ count_in (marks_in n w₀) j (m - j)
   pub same : find_of (graph_of n t) s low (candidates_in n w₀) (marks_in n w₀) y i (m - i) ≡ find_of (graph_of n t) s low (candidates_in n w₀) (marks_in n w₀) y j (m - j)
 
-pub at_start : {n : ℕ} {t degrees w₀ : List ℕ} {s : Settings} {y : Tally} {low i m left : ℕ} → SearchFits n t degrees w₀ → Room n w₀ s y low i m left → At n t degrees w₀ s y low i m left w₀ left i
-at_start lent room =
-    record { lent = lent; room = room; from = omega arith; upto = room.order; same-slice = refl; count = room.still; same = refl }
-
 module _ {n : ℕ} {t degrees w₀ : List ℕ} {s : Settings} {y : Tally} {low i m left : ℕ} {w : List ℕ} {still j : ℕ} (at : At n t degrees w₀ s y low i m left w still j) where
   abbrev room : Room n w₀ s y low i m left
   room = at.room
@@ -44,9 +39,6 @@ module _ {n : ℕ} {t degrees w₀ : List ℕ} {s : Settings} {y : Tally} {low i
   -- what the search says from place e on
   abbrev says : ℕ → Bool
   says e = find_of graph s low (candidates_in n w₀) (marks_in n w₀) y e (m - e)
-
-  pub same_length : length w ≡ length w₀
-  same_length = ap length at.same-slice
 
   -- there are no more still in than there are left
   pub still-few : still ≤ m - j
@@ -146,9 +138,6 @@ module _ {n : ℕ} {t degrees w₀ : List ℕ} {s : Settings} {y : Tally} {low i
 
       hopeful : hopeless_of s y (count_in (marks_in n w₀) j (m - j)) low ≡ false
       hopeful = leaves_is inside tries.read tries.is_in ∙ tries.hope
-
-      pub tried_length : length w₁ ≡ length w₀
-      tried_length = tried_here.restored.kept.length-kept
 
       -- found with it
       pub at_found : r ≡ true → Searched n t w₀ w₁ s y low i m true

@@ -1,4 +1,4 @@
--- The search for a larger isolated clique over marks: where it is given up, what it says, and what its functions require and leave behind.
+-- The search for a larger isolated clique over marks: where it is given up, what it finds, and what its functions require and leave behind.
 pub mod Bound
 pub mod Marks
 pub mod Numbers

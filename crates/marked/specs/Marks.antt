@@ -57,7 +57,7 @@ found_with G notion c low marks k sum least largest v j r deeper =
     let leaves = hopeless notion c low (count_in marks j r) (k + 1) (sum + d) (min least d) (max largest d) in
     here || (not leaves && deeper)
 
--- The search of `Search.find_larger` over marks, for the r candidates from place j on. A candidate that is still in is added, and the candidates after it are
+-- The search of `Rattle.theory.specs.Search.find_larger` over marks, for the r candidates from place j on. A candidate that is still in is added, and the candidates after it are
 -- searched with the marks that this leaves; else, and after that, it is passed over. At a candidate that is still in the search ends where nothing larger can
 -- be isolated by those that are still in from it on.
 unfoldable pub find_marked : Graph → ℕ → Factor → ℕ → (ℕ → ℕ) → Marks → ℕ → ℕ → ℕ → ℕ → ℕ → ℕ → Bool

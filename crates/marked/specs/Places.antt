@@ -5,7 +5,7 @@ use Rattle.theory.specs.Parts.{candidates_at, HoldsVertices, Kept}
 use Rattle.marked.specs.Marks.{Marks, StillIn, DroppedAt, drop_out, BringsBack, count_in}
 use Rattle.graph.specs.Table.{TableFits, graph_of}
 
--- part 4: their marks, and before these are set the vertices that the first way down adds
+-- part 4 of the work slice: the marks of the candidates, and before these are set the vertices that the first way down adds
 abbrev pub marks_at : ℕ → ℕ
 marks_at n = 4 * n
 

@@ -1,4 +1,6 @@
-// The search for a larger isolated clique over marks, and whether a clique is maximal of its kind.
+// The search for a larger isolated clique over marks, and whether a clique is maximal of its kind. A candidate that cannot be added any more has the depth at
+// which it dropped out as its mark, so that nothing is copied and the candidates that are still in are counted; the bound goes by their number and by the least
+// of their degrees. No crate calls it yet: the others call `larger::beaten`, which answers the same.
 #![tactic(auto)]
 
 ghost use Rattle.std.specs.Prelude.{◌≡◌, ◌+◌, ◌≤◌, min, max, eqb};
