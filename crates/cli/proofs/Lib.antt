@@ -1,2 +1,3 @@
--- The theorem about what the program prints.
+-- The laws of the program by its verdict, and the theorem about what it prints.
+pub mod ByVerdict
 pub mod Whole

@@ -204,9 +204,9 @@ pub fn tell<R: Files + Alloc>(rt: &R, descriptor: i32, o: Outcome) {
 }
 
 // Writes to a descriptor that the program was started with. It is opened anew under the name that the system gives it, and then written at its end, so
-// that nothing is lost of a file that has something already.
+// that nothing is lost of a file that has something already. It is opened for reading too, since a pipe that nobody reads is then opened at once.
 fn write_to<R: Files + Alloc>(rt: &R, descriptor: i32, bytes: &[u8]) -> io::Result<()> {
     let name = format!(in rt.alloc(); "/proc/self/fd/{descriptor}")?;
-    let mut file = File::options().append(true).open(rt, &name)?;
+    let mut file = File::options().read(true).append(true).open(rt, &name)?;
     file.write_all(bytes)
 }

@@ -37,6 +37,7 @@ unfolding printed_from
 size-goes zero d es = absurd (d refl)
 size-goes (suc e) d es = refl
 
+-- two or more, less one
 one_less : (k : ℕ) → suc k ≡ suc (suc k) - 1
 one_less k = omega arith
 

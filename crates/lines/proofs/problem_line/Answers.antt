@@ -53,7 +53,7 @@ pub returns-then-other : goal.returns-then-other
 returns-then-other c =
     faulty (problem-other _ _ c.requires.first_byte (sym c.unspaced.ensures ∙ c.if-unspaced.false)
     (λ q. false≢true (sym c.if-other.true ∙ c.starts-other.ensures.1 q))
-    ∙ goes (goal.at.returns-then-other c).Else-second)
+    ∙ by_fields c.args.s c.args.table.now _ c.requires.first_byte (sym c.unspaced.ensures ∙ c.if-unspaced.false) cc)
 
 pub returns-then-line-lt7 : goal.returns-then-line-lt7
 returns-then-line-lt7 c = faulty (problem_bare _ _ (begins (goal.at.returns-then-line-lt7 c).Else-other) c.if-line-lt7.true ∙ goes (goal.at.returns-then-line-lt7 c).Else-second)

@@ -32,7 +32,7 @@ overflow_add-steps c =
 
 pub loop-q-smaller : goal.loop-q-smaller
 loop-q-smaller c =
-    let m = more c.loop-q.invariant (λ z. omega (arith, c.if-steps-budget.false)) in
+    let further = more c.loop-q.invariant (λ z. omega (arith, c.if-steps-budget.false)) in
     omega arith
 
 pub loop-q-preserved : goal.loop-q-preserved
