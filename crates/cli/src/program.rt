@@ -15,9 +15,10 @@ use listing::{list_all, write_first};
 use request::verdict::{Verdict, decide};
 use request::words::wants_text;
 use std::env::{Env, FillError};
-use std::fs::{File, Files};
+use std::fs::{self, File, Files};
 use std::io;
 use std::io::Write;
+use std::os::unix::fs::MetadataExt;
 
 // Room for the output of a page, for the work slice of 256 vertices, and for what is printed of a page.
 fn output_room() -> [u16; 8192]
@@ -203,10 +204,14 @@ pub fn tell<R: Files + Alloc>(rt: &R, descriptor: i32, o: Outcome) {
     let _ = write_to(rt, descriptor, &bytes[..k]);
 }
 
-// Writes to a descriptor that the program was started with. It is opened anew under the name that the system gives it, and then written at its end, so
-// that nothing is lost of a file that has something already. It is opened for reading too, since a pipe that nobody reads is then opened at once.
+// Writes to a descriptor that the program was started with, where it may be written to: of the name that the system gives it the mode says so. It is opened
+// anew under that name, and then written at its end, so that nothing is lost of a file that has something already. It is opened for reading too, since a
+// pipe that nobody reads is then opened at once.
 fn write_to<R: Files + Alloc>(rt: &R, descriptor: i32, bytes: &[u8]) -> io::Result<()> {
     let name = format!(in rt.alloc(); "/proc/self/fd/{descriptor}")?;
+    if fs::symlink_metadata(rt, &name)?.mode() & 0o200 == 0 {
+        return Ok(());
+    }
     let mut file = File::options().read(true).append(true).open(rt, &name)?;
     file.write_all(bytes)
 }

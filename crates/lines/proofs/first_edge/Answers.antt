@@ -18,13 +18,13 @@ two : (c : Else-not-starts) → 2 ≤ length c.args.text.now
 two c = omega (arith, simp length-take at (ap length (begins c)))
 
 -- past the second a number and a space follow
-first : (c : Else-u_digits-eq0) → NumberEnds (drop 2 c.args.text.now) 32 c.ended-u.result
-first c =
+first : (c : Else-u_digits-eq0) → 1 ≤ c.ended-u.result.count → NumberEnds (drop 2 c.args.text.now) 32 c.ended-u.result
+first c some =
     let text = c.args.text.now in
     subst (λ (l : List ℕ). NumberEnds l 32 c.ended-u.result) (part_tail text 2) (c.ended-u.ensures (omega arith))
 
-three : (c : Else-u_digits-eq0) → c.ended-u.result.count + 3 ≤ length c.args.text.now
-three c = omega (arith, simp length-drop at (first c).within)
+three : (c : Else-u_digits-eq0) → 1 ≤ c.ended-u.result.count → c.ended-u.result.count + 3 ≤ length c.args.text.now
+three c some = omega (arith, simp length-drop at (first c some).within)
 
 -- past the last another number and byte 10
 second : (c : Else-v_digits-eq0) →
@@ -36,10 +36,10 @@ second c =
     subst (λ (l : List ℕ). NumberEnds l 10 c.ended-v.result) (part_tail text from) (c.ended-v.ensures (omega arith))
 
 pub overflow_add-at : goal.overflow_add-at
-overflow_add-at c = omega (arith, three (goal.at.overflow_add-at c).Else-u_digits-eq0)
+overflow_add-at c = omega (arith, three (goal.at.overflow_add-at c).Else-u_digits-eq0 (omega arith))
 
 pub overflow_add-result : goal.overflow_add-result
 overflow_add-result c = omega (arith, simp length-drop at (second (goal.at.overflow_add-result c).Else-v_digits-eq0).within)
 
 pub returns : goal.returns
-returns c = edge-first _ _ _ (begins (goal.at.returns c).Else-not-starts) (first (goal.at.returns c).Else-u_digits-eq0) (second (goal.at.returns c).Else-v_digits-eq0)
+returns c = edge-first _ _ _ (begins (goal.at.returns c).Else-not-starts) (first (goal.at.returns c).Else-u_digits-eq0 (omega arith)) (second (goal.at.returns c).Else-v_digits-eq0)
