@@ -100,7 +100,7 @@ pub fn print() {
     println!("the answer is no, then one less. `blocks`: near-cliques in a graph of 128, and the tests that the walk meets, up to {TESTS}.");
     println!("The library's search alone is the set query less the same at kind 1, which searches nothing; it is blank where there is more");
     println!("than one test or where it takes less time than the rest of the query. The bar: nowhere slower by more than a tenth, and faster");
-    println!("where the search is deep.\n");
+    println!("where the search is deep. The library has the search before; the one after is crate `marked`, which nothing calls yet.\n");
     println!("| graph | settings | tests | yes | nodes before | nodes after | before | after | after to before | library alone | library to after |");
     println!("|---|---|---|---|---|---|---|---|---|---|---|");
     let settings = |notion, c| Settings { notion, kind: Kind::MaximalIsolated, c };
