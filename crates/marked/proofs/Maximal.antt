@@ -1,86 +1,47 @@
 -- The test of an isolated clique for being maximal of its kind, as code branches on kind and notion.
 -- Assumes nothing.
-use Prim.Native.Nat.{ℕ, zero, suc, ◌+◌, ◌-◌, ◌*◌, ◌≤◌, ◌<◌, zero-le}
-use mathlib.Core.Path.{◌≡◌, refl, sym, ap, ◌∙◌}
-use mathlib.Core.Bool.{Bool, true, false, cond}
+use Prim.Native.Nat.{ℕ, ◌+◌, ◌-◌, ◌*◌, ◌≤◌, ◌<◌}
+use mathlib.Core.Path.{◌≡◌, sym, ap, ◌∙◌}
+use mathlib.Core.Bool.{Bool, true}
 use mathlib.Core.List.{List, []}
 use mathlib.Core.Logic.{◌≢◌}
 use native.Mathlib.Omega.{arith}
 use lib.ListN.{length, get_or}
 use lib.Dec.{ltb}
-use Rattle.model.specs.Below.{bit, count}
-use Rattle.model.specs.Graph.{Graph, degree}
-use Rattle.model.specs.Groups.{VertexSet, size_of}
-use Rattle.theory.specs.Search.{gather, degree_sum, find_larger, searched, beaten}
+use Rattle.model.specs.Graph.{degree}
+use Rattle.theory.specs.Search.{find_larger}
 use Rattle.marked.proofs.First.{first_finds}
 use Rattle.marked.proofs.Marks.{count-all}
 use Rattle.marked.proofs.Marked.{search_marked}
-use Rattle.graph.proofs.Table.{table-degree}
 use Rattle.isolation.specs.declared.Settings.{Settings}
 use Rattle.isolation.specs.declared.Tally.{Tally}
 use Rattle.isolation.specs.Numbers.{beaten_of}
 use Rattle.marked.specs.Numbers.{find_of}
-use Rattle.theory.specs.Parts.{part, candidates_at, HoldsVertices}
+use Rattle.theory.specs.Parts.{part}
 use Rattle.marked.specs.Places.{candidates_in, marks_in, KeptButMarks, MarksFit, AllIn}
-use Rattle.marked.specs.Search.{SearchFits, ReadsLeast, Lowest, Start, FirstFound, Room, Searched, Posed, Tested}
+use Rattle.larger.specs.Search.{Posed}
+use Rattle.larger.specs.Search as larger
+use Rattle.larger.proofs.Maximal.{beaten-kind, beaten-min, beaten_search, posed_room}
+use Rattle.marked.specs.Search.{SearchFits, ReadsLeast, Lowest, Start, FirstFound, Room, Searched, Tested}
 use Rattle.theory.proofs.Basics.Parts.{part_length, part_at, kept-none}
 use Rattle.marked.proofs.Parts.{kept_then}
 use Rattle.graph.specs.Table.{graph_of}
-
--- numbers of at most 1,024, summed over the members
-gather-small : (n : ℕ) (S : VertexSet) (f : ℕ → ℕ) → ((i : ℕ) → f i ≤ 1024) → gather ◌+◌ 0 n S f ≤ 1024 * count n S
-unfolding gather count
-gather-small zero S f h = zero-le
-gather-small (suc n) S f h = go (S n) (gather-small n S f h)
-  where
-    go : (b : Bool) → gather ◌+◌ 0 n S f ≤ 1024 * count n S → cond b (gather ◌+◌ 0 n S f + f n) (gather ◌+◌ 0 n S f) ≤ 1024 * (bit b + count n S)
-    go true k = let l = h n in omega arith
-    go false k = omega arith
-
-sum-small : (n : ℕ) (t : List ℕ) (S : VertexSet) → n ≤ 1024 → degree_sum (graph_of n t) S ≤ 1024 * size_of (graph_of n t) S
-unfolding degree_sum size_of
-sum-small n t S h = gather-small (graph_of n t).size S (degree (graph_of n t)) (λ i. let l = table-degree n t i in omega arith)
-
-module _ (G : Graph) (s : Settings) (y : Tally) (vs : List ℕ) where
-  by_neighbour : (b : Bool) → searched s.kind s.notion ≡ b → b ≡ false → beaten_of G s y vs ≡ ltb 0 (length vs)
-  unfolding beaten
-  by_neighbour b e f = rw (e ∙ f)
-
-  pub beaten-kind : s.kind ≢ 0 → beaten_of G s y vs ≡ ltb 0 (length vs)
-  unfolding searched
-  beaten-kind d = by_neighbour _ refl (go s.kind s.notion d)
-    where
-      go : (kind notion : ℕ) → kind ≢ 0 → searched kind notion ≡ false
-      go zero notion d = absurd (d refl)
-      go (suc k) notion d = refl
-
-  pub beaten-min : s.kind ≡ 0 → s.notion ≡ 0 → beaten_of G s y vs ≡ ltb 0 (length vs)
-  unfolding searched
-  beaten-min e f = by_neighbour _ refl (rw (e, f))
-
-  pub beaten_search : s.kind ≡ 0 → s.notion ≢ 0
-      → beaten_of G s y vs ≡ find_larger G s.notion s.factor [] y.members y.sum y.least y.largest vs
-  unfolding beaten searched
-  beaten_search e d = rw (go s.kind s.notion e d)
-    where
-      go : (kind notion : ℕ) → kind ≡ 0 → notion ≢ 0 → searched kind notion ≡ true
-      go zero zero e d = absurd (d refl)
-      go zero (suc m) e d = refl
-      go (suc k) notion e d = absurd (omega arith)
 
 module _ {n : ℕ} {t degrees w : List ℕ} {s : Settings} {y : Tally} {m : ℕ} (lent : SearchFits n t degrees w) (posed : Posed n t w s y m) where
   all-candidates : length (part w (3 * n) m) ≡ m
   all-candidates = let l = lent.parts in let f = posed.room in part_length w (3 * n) m (omega arith)
 
-  candidates_low : HoldsVertices n w (candidates_at n) m
-  candidates_low e h =
-      let l = all-candidates in
-      let a = (posed.candidates.sound e (omega arith)).0 in
-      let p = part_at w (3 * n) m e h in
-      omega arith
-
-  few : m ≤ n
-  few = let r = posed.room in omega arith
+  -- there is as much room as the search over the list asks for, since both begin with the same question
+  room : larger.Room n w s y y.members 0 m
+  room =
+      posed_room
+      (record {
+        table = lent.table;
+        degrees-fit = lent.degrees-fit;
+        degrees = lent.degrees;
+        parts = let l = lent.parts in omega arith;
+      })
+      posed
 
   -- what the search starts from
   pub posed_start : Start n w s y m
@@ -88,8 +49,8 @@ module _ {n : ℕ} {t degrees w : List ℕ} {s : Settings} {y : Tally} {m : ℕ}
       record {
         factor = posed.factor;
         room = posed.room;
-        sum = let k = sum-small n t posed.set lent.table.small in let a = posed.tally.members in let b = posed.tally.summed in omega arith;
-        candidates = candidates_low;
+        sum = room.sum;
+        candidates = room.candidates;
       }
 
   module _ (kind : s.kind ≡ 0) (notion : s.notion ≢ 0) where
@@ -107,7 +68,7 @@ module _ {n : ℕ} {t degrees w : List ℕ} {s : Settings} {y : Tally} {m : ℕ}
           }
 
       first_candidate : (e : ℕ) → e < m → candidates_in n w₁ e ≡ candidates_in n w e
-      first_candidate e h = first.kept.below (3 * n + e) (let f = few in omega arith)
+      first_candidate e h = first.kept.below (3 * n + e) (let f = room.few in omega arith)
 
       first-length : length w₁ ≡ length w
       first-length = first.kept.length-kept
@@ -117,20 +78,20 @@ module _ {n : ℕ} {t degrees w : List ℕ} {s : Settings} {y : Tally} {m : ℕ}
       reads_least =
           record {
             degrees-fit = lent.degrees-fit;
-            few = few;
+            few = room.few;
             parts = let l = lent.parts in let k = first-length in omega arith;
-            candidates = λ e h. let k = first_candidate e h in let l = candidates_low e h in omega arith;
+            candidates = λ e h. let k = first_candidate e h in let l = room.candidates e h in omega arith;
           }
 
       pub clears : MarksFit n w₁ 0 0 m
-      clears = record { few = few; order = omega arith; deep = omega arith; parts = let l = lent.parts in let k = first-length in omega arith }
+      clears = record { few = room.few; order = omega arith; deep = omega arith; parts = let l = lent.parts in let k = first-length in omega arith }
 
       module _ {low : ℕ} (lowest : Lowest n degrees w₁ m low) {w₂ : List ℕ} (all_in : AllIn n w₁ w₂ m) where
         kept_both : KeptButMarks n 0 m w w₂
         kept_both = kept_then first.kept all_in.kept
 
         same_candidate : (e : ℕ) → e < m → candidates_in n w₂ e ≡ candidates_in n w e
-        same_candidate e h = kept_both.below (3 * n + e) (let f = few in omega arith)
+        same_candidate e h = kept_both.below (3 * n + e) (let f = room.few in omega arith)
 
         pub lent_marked : SearchFits n t degrees w₂
         lent_marked =
@@ -147,10 +108,10 @@ module _ {n : ℕ} {t degrees w : List ℕ} {s : Settings} {y : Tally} {m : ℕ}
               factor = posed.factor;
               order = omega arith;
               room = let r = posed.room in omega arith;
-              few = few;
+              few = room.few;
               sum = posed_start.sum;
               low_small = lowest.small;
-              candidates = λ e h. let k = same_candidate e h in let l = candidates_low e h in omega arith;
+              candidates = λ e h. let k = same_candidate e h in let l = room.candidates e h in omega arith;
               depths = λ e h. let k = all_in.marks e h in omega arith;
               still = whole ∙ sym (count-all (marks_in n w₂) 0 (m - 0) (λ e h l. all_in.marks e (omega arith)));
             }
@@ -186,7 +147,7 @@ module _ {n : ℕ} {t degrees w : List ℕ} {s : Settings} {y : Tally} {m : ℕ}
                 let i = inside e h in
                 let k = same_candidate e i in
                 let f = first_candidate e i in
-                let v = candidates_low e i in
+                let v = room.candidates e i in
                 let d = lent.degrees (candidates_in n w₁ e) (omega arith) in
                 let g = ap (degree (graph_of n t)) (k ∙ sym f) in
                 let l = lowest.least e i in

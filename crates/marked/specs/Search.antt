@@ -1,14 +1,11 @@
 -- What the search for a larger isolated clique requires and leaves behind.
 -- Assumes nothing.
 use Rattle.std.specs.Prelude.{ℕ, ◌+◌, ◌-◌, ◌*◌, ◌≤◌, ◌<◌, ◌≡◌, Bool, false, List, [], length, get_or}
-use Rattle.model.specs.Groups.{VertexSet}
-use Rattle.model.specs.Meaning.{Clique, Loopless, Symmetric}
-use Rattle.theory.specs.Search.{Candidates}
 use Rattle.graph.specs.Table.{TableFits, graph_of}
 use Rattle.graph.specs.Degrees.{DegreesFit, HoldsDegrees}
 use Rattle.isolation.specs.declared.Settings.{Settings}
 use Rattle.isolation.specs.declared.Tally.{Tally}
-use Rattle.isolation.specs.Numbers.{FactorFits, beaten_of, TallyOf}
+use Rattle.isolation.specs.Numbers.{FactorFits, beaten_of}
 use Rattle.marked.specs.Numbers.{find_of, with_of, first_of}
 use Rattle.theory.specs.Parts.{part, candidates_at, HoldsVertices}
 use Rattle.marked.specs.Marks.{count_in}
@@ -80,19 +77,7 @@ pub record SearchedWith (n : ℕ) (t before after : List ℕ) (s : Settings) (y 
   pub answer : r ≡ with_of (graph_of n t) s low (candidates_in n before) (marks_in n before) y v i (m - i)
   pub restored : Restored n m before after r
 
--- The question that `beaten` answers: the numbers y are those of a clique in a graph with no loops that is symmetric, and the first m entries of
--- part 3 are its common neighbours. The members and these are no more than the vertices.
-pub record Posed (n : ℕ) (t w : List ℕ) (s : Settings) (y : Tally) (m : ℕ) : Type 0 where
-  pub set : VertexSet
-  pub factor : FactorFits s
-  pub room : y.members + m ≤ n
-  pub loopless : Loopless (graph_of n t)
-  pub symmetric : Symmetric (graph_of n t)
-  pub clique : Clique (graph_of n t) set
-  pub tally : TallyOf (graph_of n t) set y
-  pub candidates : Candidates (graph_of n t) set (part w (candidates_at n) m)
-
--- its answer, and that nothing but the candidates' marks is written
+-- The answer of `beaten` to the question that `larger.specs.Search.Posed` puts, and that nothing but the candidates' marks is written.
 pub record Tested (n : ℕ) (t before after : List ℕ) (s : Settings) (y : Tally) (m : ℕ) (r : Bool) : Type 0 where
   pub answer : r ≡ beaten_of (graph_of n t) s y (part before (candidates_at n) m)
   pub kept : KeptButMarks n 0 m before after

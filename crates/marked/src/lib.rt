@@ -6,10 +6,11 @@
 ghost use Rattle.std.specs.Prelude.{◌≡◌, ◌+◌, ◌≤◌, min, max, eqb};
 ghost use Rattle.model.specs.Below.{bit};
 ghost use Rattle.isolation.specs.Numbers.{Small};
+ghost use Rattle.larger.specs.Search.{Posed};
 ghost use Rattle.marked.specs.Marks.{dropped, returned};
 ghost use Rattle.marked.specs.Numbers.{grown_of, hopeless_of};
 ghost use Rattle.marked.specs.Places.{MarksFit, AllIn, DropFits, Dropped, ReturnFits, Returned};
-ghost use Rattle.marked.specs.Search.{ReadsLeast, Lowest, SearchFits, Start, FirstFound, Room, Searched, RoomWith, SearchedWith, Posed, Tested};
+ghost use Rattle.marked.specs.Search.{ReadsLeast, Lowest, SearchFits, Start, FirstFound, Room, Searched, RoomWith, SearchedWith, Tested};
 
 use graph::{degree_at, entry_at};
 use isolation::{Settings, Tally, isolated_by, less, with_member};
