@@ -1,4 +1,4 @@
-// The program once more, which at its end also tells its outcome on descriptor 3: a program of Rattle has no exit status.
+// The program once more, which at its end also tells its outcome on descriptor 3, since its exit status is 0 whatever the outcome.
 #![tactic(auto)]
 
 fn main(rt: HostRuntime) {
