@@ -1,4 +1,4 @@
-//! The search for a larger isolated clique as the library has it. Each candidate has a mark: 0 where it is joined to every
+//! The search for a larger isolated clique as crate `marked` has it. Each candidate has a mark: 0 where it is joined to every
 //! member that was added, else the depth at which it dropped out. So it is known how many are still in.
 
 use crate::posed::Lent;

@@ -1,3 +1,2 @@
--- The laws of the program by its verdict, and the theorem about what it prints.
-pub mod ByVerdict
+-- The theorem about what the program prints.
 pub mod Whole

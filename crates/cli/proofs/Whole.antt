@@ -4,36 +4,33 @@
 -- few lines of `listing::list_all` and `cli::program::answer`, and is tested.
 -- Assumes nothing.
 use Prim.Native.Nat.{ℕ}
-use mathlib.Core.Path.{◌≡◌, refl, sym, ap, ◌∙◌, subst}
-use mathlib.Core.Bool.{Bool, true, false, cond, false≢true}
-use mathlib.Core.List.{List, [], ◌++◌}
+use mathlib.Core.Path.{◌≡◌, refl, sym, ap, ◌∙◌}
+use mathlib.Core.Bool.{Bool, true, false}
+use mathlib.Core.List.{List, ◌++◌}
 use native.Mathlib.Omega.{arith}
 use lib.ListN.{length, take, length-take}
 use lib.Dec.{ltb}
 use lib.Seq.{take_all}
 use borrow.Author.Tests.{ltb-true, ltb-false, lt-ltb}
+use Rattle.std.specs.Prelude.{Result, Ok, Err}
 use Rattle.model.specs.Groups as groups
-use Rattle.model.specs.Program.{Words, wrong, chosen, settings_of_words, end_line, by_words, program_verdict, Prints}
-use Rattle.theory.specs.Printed.{printed_pages}
-use Rattle.theory.proofs.Basics.Tests.{fails}
+use Rattle.model.specs.Program.{Words, wrong, chosen, settings_of_words, by_words, program_verdict, Prints}
 use Rattle.theory.proofs.Program.Program.{refusal_prints}
 use Rattle.isolation.specs.Numbers.{settings_of}
-use Rattle.listing.specs.declared.totals.Listed.{Listed}
+use Rattle.listing.specs.declared.totals.Totals.{Totals}
 use Rattle.listing.proofs.PageByPage.{ran_begins, ran_prints}
-use Rattle.request.specs.declared.verdict.Verdict.{Verdict}
-use Rattle.request.specs.declared.verdict.Verdict.TheVariants.{Refused, Listing}
+use Rattle.refusal.specs.Numbers.{number}
+use Rattle.dimacs.specs.declared.Refused.{Refused}
+use Rattle.request.specs.declared.verdict.Listing.{Listing}
 use Rattle.request.specs.Verdict.{verdict_of}
+use Rattle.request.specs.declared.words.Arguments.{Arguments}
 use Rattle.request.specs.Words.{Handed, passes}
+use Rattle.ending.specs.declared.Unlisted.{Unlisted}
+use Rattle.ending.specs.declared.Unlisted.TheVariants.{TurnedBack, Cut}
 use Rattle.ending.specs.declared.Outcome.{Outcome}
-use Rattle.ending.specs.declared.Outcome.TheVariants.{Ended, TurnedBack, Cut, Unread}
+use Rattle.ending.specs.declared.Outcome.TheVariants.{Ended}
 use Rattle.ending.specs.Ending.{last_line, outcome_of}
 use Rattle.cli.specs.Printing.{ListedBy, Responds, ReadOf, pages_of, Uncut, PrintsAsSaid}
-
-abbrev is_ended : Outcome → Bool
-is_ended Ended = true
-is_ended (TurnedBack k line) = false
-is_ended Cut = false
-is_ended Unread = false
 
 -- ---- what is read of the text decides as the text does
 
@@ -60,32 +57,36 @@ read_same words text read h = words_same (settings_of_words words) text read h
 
 -- ---- what is printed
 
-ended-whole : (b : Bool) → cond b Ended Cut ≡ Ended → b ≡ true
-ended-whole true e = refl
-ended-whole false e = absurd (false≢true (ap is_ended e))
-
 -- an end is told only where nothing was cut
-ended-uncut : (v : Verdict) (l : Listed) (w : Bool) → outcome_of v l w ≡ Ended → Uncut v l
-ended-uncut (Refused k line) l w e = tt
-ended-uncut (Listing s n) l true e = ended-whole l.whole e
-ended-uncut (Listing s n) l false e = absurd (false≢true (ap is_ended e))
+ended-uncut : (l : Result Totals Unlisted) (w : Bool) → outcome_of l w ≡ Ended → Uncut l
+ended-uncut (Ok l) w e = tt
+ended-uncut (Err (TurnedBack r)) w e = tt
+ended-uncut (Err (Cut l)) w e = cc
 
-said : (words : List (List ℕ)) (text : List ℕ) (v : Verdict) (t : List ℕ) → verdict_of v t ≡ program_verdict words text
-    → (l : Listed) (listed : ListedBy v t l) → PrintsAsSaid words text v t l listed
-said words text (Refused k line) t e l listed =
-    record { verdict = e; uncut = λ u. refusal_prints words text k line (sym e); cut = λ u. absurd (u tt) }
-said words text (Listing s n) t e l listed =
+said_listed : (words : List (List ℕ)) (text : List ℕ) (q : Listing) (t : List ℕ) → verdict_of (Ok q) t ≡ program_verdict words text
+    → (l : Result Totals Unlisted) (listed : ListedBy (Ok q) t l) → PrintsAsSaid words text (Ok q) t l listed
+said_listed words text q t e l (Ok totals, same, ran) =
     record {
       verdict = e;
-      uncut = λ u.
-          subst (λ (x : Bool). Prints words text (printed_pages listed.replies ++ cond x (end_line l.groups l.steps) [])) (sym u)
-          (ran_prints words text (settings_of s) n _ (sym e) listed u);
-      cut = λ u. (ap (λ (x : Bool). cond x (end_line l.groups l.steps) []) (fails l.whole u), ran_begins words text (settings_of s) n _ (sym e) listed);
+      uncut = λ u. rw same (ran_prints words text (settings_of q.settings) q.vertices _ (sym e) ran);
+      cut = λ u. absurd (u (rw same tt));
+    }
+said_listed words text q t e l (Err totals, same, ran) =
+    record {
+      verdict = e;
+      uncut = λ u. absurd (rw same at u);
+      cut = λ u. (ap last_line same, ran_begins words text (settings_of q.settings) q.vertices _ (sym e) ran);
     }
 
-module _ (words : List (List ℕ)) (text : List ℕ) (count : ℕ) (a b c read table : List ℕ) (handed : Handed words count a b c) (given : ReadOf words text read) (o : Outcome)
-    (r : Responds count a b c read table o) where
-  abbrev list : Listed
+said : (words : List (List ℕ)) (text : List ℕ) (v : Result Listing Refused) (t : List ℕ) → verdict_of v t ≡ program_verdict words text
+    → (l : Result Totals Unlisted) (listed : ListedBy v t l) → PrintsAsSaid words text v t l listed
+said words text (Err r) t e l listed =
+    record { verdict = e; uncut = λ u. rw listed (refusal_prints words text (number r.refusal) r.line (sym e)); cut = λ u. absurd (u (rw listed tt)) }
+said words text (Ok q) t e l listed = said_listed words text q t e l listed
+
+module _ (words : List (List ℕ)) (text : List ℕ) (w : Arguments) (read table : List ℕ) (handed : Handed words w) (given : ReadOf words text read) (o : Outcome)
+    (r : Responds w read table o) where
+  abbrev list : Result Totals Unlisted
   list = r.answered.list
 
   -- The program prints what document 01 says, over the contract of `cli::program::respond`: what its writes are handed, page by page and last, is required of
@@ -95,5 +96,5 @@ module _ (words : List (List ℕ)) (text : List ℕ) (count : ℕ) (a b c read t
       said words text r.verdict table (r.decided.verdict words handed ∙ read_same words text read given) list r.answered.listed
 
   -- It tells an end only of a list that is whole, and then it has printed all that document 01 says.
-  pub ended_prints : o ≡ Ended → Prints words text (pages_of r.verdict table list r.answered.listed ++ last_line r.verdict list)
-  ended_prints e = program_prints.uncut (ended-uncut r.verdict list r.answered.written (sym r.answered.told ∙ e))
+  pub ended_prints : o ≡ Ended → Prints words text (pages_of r.verdict table list r.answered.listed ++ last_line list)
+  ended_prints e = program_prints.uncut (ended-uncut list r.answered.written (sym r.answered.told ∙ e))

@@ -1,5 +1,5 @@
 // The program: it reads its words and its text, decides, and prints a refusal or all groups and the totals.
-ghost use Rattle.std.specs.Prelude.{◌≡◌, ◌-◌, ◌≤◌, length, take, replicate};
+ghost use Rattle.std.specs.Prelude.{◌≡◌, ◌≤◌, length, replicate};
 ghost use Rattle.isolation.specs.Numbers.{settings_of};
 ghost use Rattle.listing.specs.List.{Listable, Ran};
 ghost use Rattle.request.specs.Verdict.{Fine};
@@ -7,145 +7,105 @@ ghost use Rattle.ending.specs.Ending.{last_line};
 ghost use Rattle.cli.specs.Printing.{ListedBy, Answers, Responds};
 
 use crate::reading::read_wanted;
-use ending::{Outcome, last_line, outcome_line, outcome_of};
-use graph::fill_degrees;
-use isolation::Settings;
-use listing::totals::Listed;
-use listing::{list_all, write_first};
-use request::verdict::{Verdict, decide};
-use request::words::wants_text;
+use ending::{Outcome, Unlisted, last_line, outcome_line, outcome_of};
+use graph::{Lent, Table};
+use listing::list_all;
+use listing::totals::Totals;
+use request::verdict::{Listing, Verdict, decide};
+use request::words::Arguments;
 use std::env::{Env, FillError};
 use std::fs::{self, File, Files};
 use std::io;
 use std::io::Write;
 use std::os::unix::fs::MetadataExt;
 
-// Room for the output of a page, for the work slice of 256 vertices, and for what is printed of a page.
-fn output_room() -> [u16; 8192]
-    ensures { 8192 ≡ length result }
-{
-    [0; 8192]
-}
-
-fn work_room() -> [u16; 2048]
-    ensures { 2048 ≡ length result }
-{
-    [0; 2048]
-}
-
-fn print_room() -> [u8; 49152]
-    ensures { 49152 ≡ length result }
-{
-    [0; 49152]
-}
-
-// Lists the degrees of a graph of at most 256 vertices, and prints "one line a group" of it.
-fn list_with_degrees(
+// Prints "one line a group" of a graph of at most 256 vertices. Memory: a degree and a position byte for each vertex, the output of a page, and the work
+// slice of 256 vertices.
+fn list_graph(
     rt: &impl Print,
     table: &[u8],
-    degrees: &mut [u16],
-    n: usize,
-    s: Settings,
+    listing: Listing,
     bytes: &mut [u8],
-) -> Listed
-    requires listable { Listable n table.now (settings_of s) × (length degrees.old ≡ n) }
-    requires in_bounds { 49152 ≤ length bytes.old }
-    ensures { Ran n table.now (settings_of s) result }
+) -> Result<Totals, Totals>
+    requires listable { Listable listing.vertices table.now (settings_of listing.settings) }
+    requires room { 49152 ≤ length bytes.old }
+    ensures { Ran listing.vertices table.now (settings_of listing.settings) result }
 {
-    fill_degrees(table, n, degrees);
+    let n = listing.vertices;
+    let mut degrees = [0u16; 256];
     let mut position = [0u8; 256];
-    let mut output = output_room();
-    let mut work = work_room();
+    let mut output = [0u16; 8192];
+    let mut work = [0u16; 2048];
+    let table = Table { bytes: table, n };
+    let degrees = &mut degrees[..n];
+    table.fill_degrees(degrees);
+    let lent = Lent { table, degrees };
     list_all(
         rt,
-        table,
-        degrees,
+        &lent,
+        listing.settings,
         &mut position[..n],
         &mut output,
         &mut work,
         bytes,
-        n,
-        s,
     )
 }
 
-// Prints "one line a group" of a graph of at most 256 vertices.
-fn list_graph(rt: &impl Print, table: &[u8], n: usize, s: Settings, bytes: &mut [u8]) -> Listed
-    requires listable { Listable n table.now (settings_of s) }
-    requires in_bounds { 49152 ≤ length bytes.old }
-    ensures { Ran n table.now (settings_of s) result }
-{
-    let mut degrees = [0u16; 256];
-    list_with_degrees(rt, table, &mut degrees[..n], n, s, bytes)
-}
-
 // Prints the groups where there is a graph to list. A refusal lists nothing.
-fn list(rt: &impl Print, v: Verdict, table: &[u8], bytes: &mut [u8]) -> Listed
-    requires fine { Fine v table.now }
-    requires in_bounds { 49152 ≤ length bytes.old }
-    ensures { ListedBy v table.now result }
+fn list(
+    rt: &impl Print,
+    verdict: Verdict,
+    table: &[u8],
+    bytes: &mut [u8],
+) -> Result<Totals, Unlisted>
+    requires fine { Fine verdict table.now }
+    requires room { 49152 ≤ length bytes.old }
+    ensures { ListedBy verdict table.now result }
 {
-    match v {
-        Verdict::Refused(_, _) => {
-            return Listed {
-                groups: 0,
-                steps: 0,
-                whole: false,
-            };
-        }
-        Verdict::Listing(s, n) => {
-            return list_graph(rt, &table[..n * n], n, s, bytes);
-        }
-    }
+    let listing = verdict?;
+    let n = listing.vertices;
+    list_graph(rt, &table[..n * n], listing, bytes).map_err(Unlisted::Cut)
 }
 
-// Writes the last line of what is printed, the first k bytes of a buffer, and answers whether all of it was written.
-fn write_last(rt: &impl Print, bytes: &[u8], k: usize, v: Verdict, l: Listed) -> bool
-    requires k_in_bounds { k ≤ length bytes.now }
-    requires bytes_value { take k bytes.now ≡ last_line v l }
+// Writes the last line of what is printed. What is handed to the write is required, since no contract can speak of what a write does.
+fn write_last(rt: &impl Print, line: &[u8], listed: Result<Totals, Unlisted>) -> io::Result<()>
+    requires { line.now ≡ last_line listed }
 {
-    write_first(rt, bytes, k)
+    rt.write_all(line)
 }
 
 // Prints what a verdict asks for: the groups, and then the last line, by way of a buffer.
-fn answer(rt: &impl Print, v: Verdict, table: &[u8], bytes: &mut [u8]) -> Outcome
-    requires fine { Fine v table.now }
-    requires in_bounds { 49152 ≤ length bytes.old }
-    ensures { Answers v table.now result }
+fn answer(rt: &impl Print, verdict: Verdict, table: &[u8], bytes: &mut [u8]) -> Outcome
+    requires fine { Fine verdict table.now }
+    requires room { 49152 ≤ length bytes.old }
+    ensures { Answers verdict table.now result }
 {
-    let l = list(rt, v, table, bytes);
-    let k = last_line(v, l, bytes);
-    let written = write_last(rt, bytes, k, v, l);
-    outcome_of(v, l, written)
+    let listed = list(rt, verdict, table, bytes);
+    let end = last_line(listed, bytes);
+    let written = write_last(rt, &bytes[..end], listed);
+    outcome_of(listed, written.is_ok())
 }
 
 // Decides by the words and the text, and prints what the verdict asks for. The table is all 0 before, and the buffer may hold anything.
 fn respond(
     rt: &impl Print,
-    count: usize,
-    a: &[u8],
-    b: &[u8],
-    c: &[u8],
+    words: &Arguments,
     text: &[u8],
     table: &mut [u8],
     bytes: &mut [u8],
 ) -> Outcome
-    requires table_value { table.old ≡ replicate 65536 0 }
-    requires in_bounds { 49152 ≤ length bytes.old }
-    ensures { Responds count a.now b.now c.now text.now table.new result }
+    requires zeros { table.old ≡ replicate 65536 0 }
+    requires room { 49152 ≤ length bytes.old }
+    ensures { Responds words.now text.now table.new result }
 {
-    let v = decide(count, a, b, c, text, table);
-    answer(rt, v, table, bytes)
+    let verdict = decide(words, text, table);
+    answer(rt, verdict, table, bytes)
 }
 
-// Puts an argument at the start of a buffer, and answers how many bytes it has, where it is there and fits, and else 0.
-fn argument(rt: &impl Env, place: usize, buffer: &mut [u8]) -> usize
-    ensures { result ≤ length buffer.new }
-{
-    match rt.arg(place, buffer) {
-        Ok(bytes) => bytes,
-        Err(_) => 0,
-    }
+// An argument, as it stands at the start of a buffer: where it is not there or does not fit, the empty one.
+fn argument<'a>(rt: &impl Env, place: usize, buffer: &'a mut [u8]) -> &'a [u8] {
+    let end = rt.arg(place, buffer).unwrap_or(0);
+    &buffer[..end]
 }
 
 // How many arguments there are, the program's own name among them. One that doesn't fit the buffer counts like any other.
@@ -159,49 +119,32 @@ fn argument_count(rt: &impl Env) -> usize {
     usize::MAX
 }
 
-// How many words follow the program's own name.
-fn after_name(count: usize) -> usize
-    ensures { result ≡ count - 1 }
-{
-    if count == 0 { 0 } else { count - 1 }
-}
-
 // The program: words first, then 41, then the text, of which one byte more than is allowed tells that it is too long. A word that is longer than
 // its buffer is no number, and neither is the empty one that stands for it here. A text that can't be read is neither listed nor refused.
 pub fn program(rt: &(impl Env + Input + Print)) -> Outcome {
-    let mut a = [0u8; 8];
-    let mut b = [0u8; 8];
-    let mut c = [0u8; 8];
+    let mut first = [0u8; 8];
+    let mut second = [0u8; 8];
+    let mut third = [0u8; 8];
     let mut text = [0u8; 65537];
     let mut table = [0u8; 65536];
-    let first = argument(rt, 1, &mut a);
-    let second = argument(rt, 2, &mut b);
-    let third = argument(rt, 3, &mut c);
-    let count = after_name(argument_count(rt));
-    let wanted = wants_text(count, &a[..first], &b[..second], &c[..third]);
-    let read = read_wanted(rt, wanted, &mut text);
-    if read.failed {
+    let words = Arguments {
+        first: argument(rt, 1, &mut first),
+        second: argument(rt, 2, &mut second),
+        third: argument(rt, 3, &mut third),
+        count: argument_count(rt).saturating_sub(1),
+    };
+    let Ok(text) = read_wanted(rt, words.wants_text(), &mut text) else {
         return Outcome::Unread;
-    }
-    let got = read.bytes;
-    let mut bytes = print_room();
-    respond(
-        rt,
-        count,
-        &a[..first],
-        &b[..second],
-        &c[..third],
-        &text[..got],
-        &mut table,
-        &mut bytes,
-    )
+    };
+    let mut bytes = [0u8; 49152];
+    respond(rt, &words, text, &mut table, &mut bytes)
 }
 
 // Tells an outcome on a descriptor of its own, for whoever started the program with one. Where it can't be told, nothing more is done.
-pub fn tell<R: Files + Alloc>(rt: &R, descriptor: i32, o: Outcome) {
+pub fn tell<R: Files + Alloc>(rt: &R, descriptor: i32, outcome: Outcome) {
     let mut bytes = [0u8; 40];
-    let k = outcome_line(o, &mut bytes);
-    let _ = write_to(rt, descriptor, &bytes[..k]);
+    let end = outcome_line(outcome, &mut bytes);
+    let _ = write_to(rt, descriptor, &bytes[..end]);
 }
 
 // Writes to a descriptor that the program was started with, where it may be written to: of the name that the system gives it the mode says so. It is opened

@@ -17,7 +17,7 @@ use Rattle.model.specs.Demand.{joined_output, SomeFinished, Demand3}
 use Rattle.theory.proofs.Calls.Bounds.{page_bounds}
 use Rattle.theory.proofs.Calls.Pages.{call_accepted, call_progress, demand3}
 use Rattle.graph.specs.Table.{lent, graph_of}
-use Rattle.graph.proofs.Refusals.{lent-simple}
+use Rattle.graph.proofs.Faults.{lent-simple}
 use Rattle.rounds.specs.Answer.{PageReplies}
 use Rattle.demand.specs.Demand.{MadeCall, Promised, reported, Calls, EachCall, Every, PageDemanded, TableCalls, TableDemanded}
 

@@ -1,12 +1,12 @@
 // The text reader of document 01: an edge text becomes the table of a graph, line by line, in place.
 #![tactic(auto)]
 
-ghost use Rattle.std.specs.Prelude.{[], length};
-ghost use Rattle.model.specs.Text.{refused_at, read_from};
-ghost use Rattle.lines.specs.Line.{reading_of, ReadingFits};
-ghost use Rattle.dimacs.specs.Reply.{TextReplies, ReadsAs};
+ghost use Rattle.std.specs.Prelude.{◌≡◌};
+ghost use Rattle.model.specs.Text.{read_text};
+ghost use Rattle.dimacs.specs.Reply.{answer_of, before_first, text_reply, LinesRead, ReadsAs};
 
-use lines::{Outcome, Said};
+use lines::said::Said;
+use refusal::Refusal;
 
 // What a call answers: 0, N, M and 0, or the refusal's number, zeros and the line.
 #[repr(C)]
@@ -18,72 +18,95 @@ pub struct TextAnswer {
     pub line: usize,
 }
 
-// Refused: "N and M are then 0. The table is unchanged if no p line passed, else its first N × N bytes, with that line's N, are 0."
-fn refuse(table: &mut [u8], s: Said, number: u32, line: usize) -> TextAnswer
-    requires { ReadingFits s (length table.old) }
-    ensures { TextReplies (refused_at number line (reading_of s table.old) table.old) table.new result }
-{
-    let n = s.vertices;
-    lines::table::clear(table, n * n);
-    TextAnswer {
-        refusal: number,
-        vertices: 0,
-        edges: 0,
-        line,
+// A refusal, and the line that it is of: 0 where it is of no line of the text.
+#[derive(Clone, Copy, Debug, PartialEq, Eq)]
+pub struct Refused {
+    pub refusal: Refusal,
+    pub line: usize,
+}
+
+impl From<Refusal> for Refused {
+    ghost from_gives = { λ refusal refused. refused ≡ record { refusal = refusal; line = 0 } };
+
+    fn from(refusal: Refusal) -> Refused {
+        Refused { refusal, line: 0 }
     }
 }
 
-// The end of the text: 33 no p line, 39 M differs, both with the line count plus 1; else number 0, N, M, line 0.
-fn finish(table: &mut [u8], s: Said, line: usize) -> TextAnswer
-    requires { ReadingFits s (length table.old) }
-    ensures { TextReplies (read_from line (reading_of s table.old) [] table.old) table.new result }
-{
-    if !s.passed {
-        return refuse(table, s, 33, line);
+impl From<Result<Said, Refused>> for TextAnswer {
+    ghost from_gives = { λ read answer. answer ≡ answer_of read };
+
+    fn from(read: Result<Said, Refused>) -> TextAnswer {
+        match read {
+            Ok(s) => TextAnswer {
+                refusal: 0,
+                vertices: s.vertices as u32,
+                edges: s.stated as u32,
+                line: 0,
+            },
+            Err(refused) => TextAnswer {
+                refusal: refused.refusal.into(),
+                vertices: 0,
+                edges: 0,
+                line: refused.line,
+            },
+        }
     }
+}
+
+// How far a text was read: what its lines say so far, and the number of the next line.
+#[derive(Clone, Copy)]
+struct Place {
+    said: Option<Said>,
+    line: usize,
+}
+
+// Reads the lines of a text into the table, once, from the first to the last, up to a refusal. At the end: 33 no p line, 39 M differs, both with the
+// line count plus 1.
+fn read_lines(text: &[u8], table: &mut [u8], place: &mut Place) -> Result<Said, Refusal>
+    requires { place.old ≡ before_first }
+    ensures { LinesRead text.now table.old place.new table.new result }
+{
+    let mut at: usize = 0;
+    while at < text.len() {
+        let first = lines::read_first(&text[at..], table, &mut place.said);
+        first.outcome?;
+        at += first.length + 1;
+        place.line += 1;
+    }
+    let s = place.said.ok_or(Refusal::NoProblemLine)?;
     if s.edges != s.stated {
-        return refuse(table, s, 39, line);
+        return Err(Refusal::EdgeCount);
     }
-    TextAnswer {
-        refusal: 0,
-        vertices: s.vertices as u32,
-        edges: s.stated as u32,
-        line: 0,
+    Ok(s)
+}
+
+// Reads a text into the table: what its lines say, or the refusal. What this gives, and every byte of the table slice afterwards, are what `read_text` of
+// document 01 gives for the text and the slice; nothing is copied. Refused: "The table is unchanged if no p line passed, else its first N × N bytes, with
+// that line's N, are 0."
+pub fn read(text: &[u8], table: &mut [u8]) -> Result<Said, Refused>
+    ensures { text_reply result table.new ≡ read_text text.now table.old }
+{
+    let mut place = Place {
+        said: None,
+        line: 1,
+    };
+    match read_lines(text, table, &mut place) {
+        Ok(s) => Ok(s),
+        Err(refusal) => {
+            let n = place.said.map_or(0, |s| s.vertices);
+            table[..n * n].fill(0);
+            Err(Refused {
+                refusal,
+                line: place.line,
+            })
+        }
     }
 }
 
-// Reads a text into the table. The answer, and every byte of the table slice afterwards, are what `read_text` of document 01 gives
-// for the text and the slice. Lines are read once, from the first to the last, and nothing is copied.
+// The text reader as C calls it. Refused: "N and M are then 0."
 pub fn read_text(text: &[u8], table: &mut [u8]) -> TextAnswer
     ensures { ReadsAs text.now table.old table.new result }
 {
-    let mut s = Said {
-        passed: false,
-        vertices: 0, // no byte of the table is claimed before a p line
-        stated: 0,
-        edges: 0,
-    };
-    let mut at: usize = 0;
-    let mut line: usize = 1;
-    while at < text.len() {
-        let first = lines::read_first(&text[at..], table, s);
-        let outcome = first.outcome;
-        match outcome {
-            Outcome::Bad(number) => {
-                return refuse(table, s, number, line);
-            }
-            Outcome::Next(r) => {
-                // field by field, since a move of the whole struct moves its padding too, which takes more time than the line
-                s = Said {
-                    passed: r.passed,
-                    vertices: r.vertices,
-                    stated: r.stated,
-                    edges: r.edges,
-                };
-            }
-        }
-        at += first.length + 1;
-        line += 1;
-    }
-    finish(table, s, line)
+    read(text, table).into()
 }

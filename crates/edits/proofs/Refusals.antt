@@ -17,7 +17,7 @@ use Rattle.theory.proofs.Graph.Degrees.{degree_le, degree-some}
 use Rattle.theory.proofs.Graph.Pairs.{recount-length, recount-other}
 use Rattle.theory.proofs.Calls.Edits.{outside_test, edit_passes_iff}
 use Rattle.graph.specs.Table.{TableFits, lent, graph_of}
-use Rattle.graph.proofs.Refusals.{LentPassed, lent-passed}
+use Rattle.graph.proofs.Faults.{LentPassed, lent-passed}
 use Rattle.edits.specs.Edits.{CanMove}
 
 -- ---- test by test
@@ -29,10 +29,10 @@ module _ (L : LentGraph) (u v : ℕ) where
   by_lent e d = e ∙ sym (else_found (λ z. d (e ∙ z)) _)
 
   -- it has none
-  module _ {r : ℕ} (of-lent : r ≡ L.fault) (fine : r ≡ 0) where
+  module _ (fine : 0 ≡ L.fault) where
     by_pair : refuse_edit L u v ≡ refuse_pair L.graph.size u v
     unfolding refuse_edit
-    by_pair = else_none (sym of-lent ∙ fine) _
+    by_pair = else_none (sym fine) _
 
     -- u or v is not below n
     pub by_range : (L.graph.size ≤ u) ⊎ (L.graph.size ≤ v) → 43 ≡ refuse_edit L u v
@@ -48,7 +48,7 @@ module _ (L : LentGraph) (u v : ℕ) where
 
     -- no fault
     pub by_none : u < L.graph.size → v < L.graph.size → u ≢ v → 0 ≡ refuse_edit L u v
-    by_none hu hv d = sym ((edit_passes_iff L u v).1 (record { no_fault = sym of-lent ∙ fine; from-below = hu; to_below = hv; differ = d }))
+    by_none hu hv d = sym ((edit_passes_iff L u v).1 (record { no_fault = sym fine; from-below = hu; to_below = hv; differ = d }))
 
 -- ---- what passes them
 
@@ -62,10 +62,10 @@ pub record CanEdit (n : ℕ) (t d : List ℕ) (u v : ℕ) : Type 0 where
 
 module _ {n : ℕ} {t d : List ℕ} {u v : ℕ} where
   -- an edit that passes has it
-  pub can_edit : {r : ℕ} → r ≡ refuse_edit (lent n t d) u v → r ≡ 0 → CanEdit n t d u v
-  can_edit e z =
-      let p = (edit_passes_iff (lent n t d) u v).0 (sym e ∙ z) in
-      record { passes = sym e ∙ z; passed = lent-passed n t d p.no_fault; from-below = p.from-below; to_below = p.to_below; differ = p.differ }
+  pub can_edit : refuse_edit (lent n t d) u v ≡ 0 → CanEdit n t d u v
+  can_edit e =
+      let p = (edit_passes_iff (lent n t d) u v).0 e in
+      record { passes = e; passed = lent-passed n t d p.no_fault; from-below = p.from-below; to_below = p.to_below; differ = p.differ }
 
   -- so that both its bytes are in the table
   pub can_write : CanEdit n t d u v → TableFits n t × (u < n) × (v < n)

@@ -5,6 +5,9 @@ use mathlib.Core.Path.{◌≡◌, sym, ap, ◌∙◌}
 use mathlib.Core.Bool.{Bool, true, false, not, beq}
 use mathlib.Core.List.{List}
 use mathlib.Core.Logic.{◌≢◌}
+use Rattle.std.specs.Prelude.{Result}
+use Rattle.std.specs.Result.{IsErrAnd}
+use Rattle.std.proofs.lemmas.Result.{err_from_is_err_and}
 use native.Mathlib.Omega.{arith}
 use lib.ListN.{length}
 use borrow.Author.Tests.{ne_eqb}
@@ -16,7 +19,10 @@ use Rattle.theory.proofs.Basics.Refusals.{else_none, else_found}
 use Rattle.theory.proofs.Calls.Edits.{edit_left, edit_same, edit_done}
 use Rattle.theory.proofs.Calls.DegreesCall.{list_left, list_done, list-passes_iff}
 use Rattle.graph.specs.Table.{lent_table, lent, graph_of}
-use Rattle.edits.specs.Edits.{EditReplies, ListReplies}
+use Rattle.refusal.specs.declared.Refusal.{Refusal}
+use Rattle.refusal.specs.Numbers.{number}
+use Rattle.refusal.proofs.Handed.{number-some}
+use Rattle.edits.specs.Edits.{answer_of, EditReplies, ListReplies}
 
 -- ---- an edit
 
@@ -31,8 +37,11 @@ module _ {b : Bool} {n : ℕ} {t d : List ℕ} {u v : ℕ} where
       }
 
   -- refused: its number, and nothing is written
-  pub replies-refused : {r : ℕ} → r ≡ refuse_edit (lent n t d) u v → r ≢ 0 → EditReplies b n t d u v (record { refusal = r; unchanged = 0 }) t d
-  replies-refused e z = replies_as (edit_left (lent n t d) u v b t d (with_pair (bit b) n u v t) z (sym e))
+  pub replies-refused : (q : Result Bool Refusal) (r : Refusal) → IsErrAnd q (λ x. x ≡ r) → number r ≡ refuse_edit (lent n t d) u v
+      → EditReplies b n t d u v (answer_of q) t d
+  replies-refused q r h e =
+      let p = err_from_is_err_and q h in
+      rw (p.1, p.2) (replies_as (edit_left (lent n t d) u v b t d (with_pair (bit b) n u v t) (number-some r) (sym e)))
 
   module _ (passes : refuse_edit (lent n t d) u v ≡ 0) where
     -- the pair is so already, and nothing is written
@@ -53,21 +62,21 @@ module _ {n : ℕ} {t d : List ℕ} where
   lists_as e = record { refusal = ap (λ (x : DegreesReply). x.refused) (sym e); degrees = ap (λ (x : DegreesReply). x.degrees) (sym e) }
 
   -- the table has a fault
-  pub lists_refused : {r : ℕ} → r ≡ (lent_table n t).fault → r ≢ 0 → ListReplies n t d r d
+  pub lists_refused : (r : Refusal) → number r ≡ (lent_table n t).fault → {k : ℕ} → k ≡ number r → ListReplies n t d k d
   unfolding refuse_list
-  lists_refused e z = lists_as (list_left (lent_table n t) d z (else_found (λ q. z (e ∙ q)) _ ∙ sym e))
+  lists_refused r e h = rw h (lists_as (list_left (lent_table n t) d (number-some r) (else_found (λ q. number-some r (e ∙ q)) _ ∙ sym e)))
 
   -- it has none
-  module _ {r : ℕ} (of-table : r ≡ (lent_table n t).fault) (fine : r ≡ 0) where
+  module _ (fine : 0 ≡ (lent_table n t).fault) where
     -- the list is not n long
     pub lists_other-length : length d ≢ n → ListReplies n t d 42 d
     unfolding refuse_list refuse
     lists_other-length z =
         lists_as (list_left (lent_table n t) d (λ q. omega arith)
-        (else_none (sym of-table ∙ fine) _ ∙ ap (λ (x : Bool). refuse 42 (not x) 0) (ne_eqb (length d) n z)))
+        (else_none (sym fine) _ ∙ ap (λ (x : Bool). refuse 42 (not x) 0) (ne_eqb (length d) n z)))
 
     -- the list is that of the degrees
     pub lists_done : length d ≡ n → {d₁ : List ℕ} → d₁ ≡ degree_list (graph_of n t) → ListReplies n t d 0 d₁
     lists_done long e =
-        let a = lists_as (list_done (lent_table n t) d ((list-passes_iff (lent_table n t) d).1 (sym of-table ∙ fine, long))) in
+        let a = lists_as (list_done (lent_table n t) d ((list-passes_iff (lent_table n t) d).1 (sym fine, long))) in
         record { refusal = a.refusal; degrees = e ∙ a.degrees }

@@ -1,41 +1,63 @@
 // Document 02, C-12: the two calls that join or part a pair of vertices, and the call that lists the degrees.
 #![tactic(auto)]
 
-ghost use Rattle.std.specs.Prelude.{◌≡◌, true, false, ◌<◌};
+ghost use Rattle.std.specs.Prelude.{◌≡◌, true, false, ◌<◌, IfOk};
 ghost use Rattle.model.specs.Graph.{with_pair};
 ghost use Rattle.model.specs.Edits.{refuse_edit, recount};
+ghost use Rattle.refusal.specs.Numbers.{fault};
 ghost use Rattle.graph.specs.Table.{TableFits, lent};
-ghost use Rattle.edits.specs.Edits.{CanMove, EditReplies, ListReplies};
+ghost use Rattle.graph.specs.Given.{LentAs};
+ghost use Rattle.edits.specs.Edits.{CanMove, answer_of, EditReplies, ListReplies};
 
-use graph::{fill_degrees, joined, lent_refusal, table_refusal};
+use graph::{Lent, Table};
+use refusal::Refusal;
 
 // An edit's answer: the refusal number, 0 where the edit is accepted; and 1 where it is accepted and the pair was so already, so that nothing changed.
 #[repr(C)]
-#[derive(Drop)]
+#[derive(Clone, Copy, Debug, PartialEq, Eq)]
 pub struct EditAnswer {
     pub refusal: u32,
     pub unchanged: u32,
 }
 
-// The refusal number of an edit of the pair of u and v, for a table and a list of degrees of any lengths and contents, and any n: 1 to 5 of the table, 42
-// of the list, 43 where u or v is not below n, 44 where they are equal, and 0 where all these tests pass. Reads the table and the list.
-fn edit_refusal(table: &[u8], degrees: &[u16], n: usize, u: usize, v: usize) -> u32
-    ensures { result ≡ refuse_edit (lent n table.now degrees.now) u v }
+// An accepted edit tells whether the pair was so already.
+impl From<Result<bool, Refusal>> for EditAnswer {
+    ghost from_gives = { λ r a. a ≡ answer_of r };
+
+    fn from(r: Result<bool, Refusal>) -> EditAnswer {
+        match r {
+            Ok(so) => EditAnswer {
+                refusal: 0,
+                unchanged: u32::from(so),
+            },
+            Err(refusal) => EditAnswer {
+                refusal: u32::from(refusal),
+                unchanged: 0,
+            },
+        }
+    }
+}
+
+// The graph on n vertices that a table and a list of degrees hold, of any lengths and contents and for any n, or the refusal of an edit of its pair of u
+// and v: 1 to 5 of the table, 42 of the list, 43 where u or v is not below n, 44 where they are equal. Reads the table and the list.
+fn lent_pair<'a>(
+    table: &'a [u8],
+    degrees: &'a [u16],
+    n: usize,
+    u: usize,
+    v: usize,
+) -> Result<Lent<'a>, Refusal>
+    ensures refused { fault result ≡ refuse_edit (lent n table.now degrees.now) u v }
+    ensures held { IfOk result (LentAs n table.now degrees.now) }
 {
-    let of_lent = lent_refusal(table, degrees, n);
-    if of_lent != 0 {
-        return of_lent;
-    }
-    if n <= u {
-        return 43; // u is not below n
-    }
-    if n <= v {
-        return 43; // v is not below n
+    let lent = Lent::new(table, degrees, n)?;
+    if n <= u || n <= v {
+        return Err(Refusal::PairRange);
     }
     if u == v {
-        return 44;
+        return Err(Refusal::PairEqual);
     }
-    0
+    Ok(lent)
 }
 
 // Writes x into both bytes of the pair of u and v, vertices of the graph on n vertices that the table holds; the other bytes stay.
@@ -62,7 +84,7 @@ fn move_degree(degrees: &mut [u16], w: usize, joins: bool)
 }
 
 // Joins the pair of u and v of the graph on n vertices where `joins` says so, and parts it otherwise: both its bytes in the table, and its two degrees in
-// the list. Where the pair is so already, and where the edit is refused, it writes nothing. Past the refusals it reads one byte of the
+// the list. Tells whether the pair was so already; then, and where the edit is refused, it writes nothing. Past the refusals it reads one byte of the
 // table and two degrees.
 fn edit(
     table: &mut [u8],
@@ -71,29 +93,17 @@ fn edit(
     u: usize,
     v: usize,
     joins: bool,
-) -> EditAnswer
-    ensures { EditReplies joins n table.old degrees.old u v result table.new degrees.new }
+) -> Result<bool, Refusal>
+    ensures { EditReplies joins n table.old degrees.old u v (answer_of result) table.new degrees.new }
 {
-    let refusal = edit_refusal(table, degrees, n, u, v);
-    if refusal != 0 {
-        return EditAnswer {
-            refusal,
-            unchanged: 0, // refused
-        };
+    let lent = lent_pair(table, degrees, n, u, v)?;
+    if lent.table.joined(u, v) == joins {
+        return Ok(true);
     }
-    if joined(table, n, u, v) == joins {
-        return EditAnswer {
-            refusal: 0,
-            unchanged: 1,
-        };
-    }
-    write_pair(table, n, u, v, joins as u8);
+    write_pair(table, n, u, v, u8::from(joins));
     move_degree(degrees, v, joins);
     move_degree(degrees, u, joins);
-    EditAnswer {
-        refusal: 0,
-        unchanged: 0, // changed
-    }
+    Ok(false)
 }
 
 // Joins the pair of u and v of the graph on n vertices that the table and the list of its degrees hold: both its bytes are then 1 and its two degrees are
@@ -101,7 +111,7 @@ fn edit(
 pub fn join(table: &mut [u8], degrees: &mut [u16], n: usize, u: usize, v: usize) -> EditAnswer
     ensures { EditReplies true n table.old degrees.old u v result table.new degrees.new }
 {
-    edit(table, degrees, n, u, v, true)
+    EditAnswer::from(edit(table, degrees, n, u, v, true))
 }
 
 // Parts the pair of u and v of the graph on n vertices that the table and the list of its degrees hold: both its bytes are then 0 and its two degrees are
@@ -109,7 +119,20 @@ pub fn join(table: &mut [u8], degrees: &mut [u16], n: usize, u: usize, v: usize)
 pub fn part(table: &mut [u8], degrees: &mut [u16], n: usize, u: usize, v: usize) -> EditAnswer
     ensures { EditReplies false n table.old degrees.old u v result table.new degrees.new }
 {
-    edit(table, degrees, n, u, v, false)
+    EditAnswer::from(edit(table, degrees, n, u, v, false))
+}
+
+// Writes the degrees of the graph on n vertices that a table of these bytes holds into the list, whatever the list held; or writes nothing and gives the
+// refusal: 1 to 5 of the table, and 42 where the list is not n long. Reads the bytes.
+fn write_degrees(bytes: &[u8], degrees: &mut [u16], n: usize) -> Result<(), Refusal>
+    ensures { ListReplies n bytes.now degrees.old (fault result) degrees.new }
+{
+    let table = Table::new(bytes, n)?;
+    if degrees.len() != n {
+        return Err(Refusal::Degrees);
+    }
+    table.fill_degrees(degrees);
+    Ok(())
 }
 
 // Writes the degrees of the graph on n vertices that the table holds into the list, whatever the list held, and gives 0; or gives the refusal number and
@@ -117,13 +140,8 @@ pub fn part(table: &mut [u8], degrees: &mut [u16], n: usize, u: usize, v: usize)
 pub fn list_degrees(table: &[u8], degrees: &mut [u16], n: usize) -> u32
     ensures { ListReplies n table.now degrees.old result degrees.new }
 {
-    let of_table = table_refusal(table, n);
-    if of_table != 0 {
-        return of_table;
+    match write_degrees(table, degrees, n) {
+        Ok(()) => 0,
+        Err(refusal) => u32::from(refusal),
     }
-    if degrees.len() != n {
-        return 42;
-    }
-    fill_degrees(table, n, degrees);
-    0
 }

@@ -2,21 +2,18 @@
 -- Assumes nothing.
 use Prim.Native.Nat.{ℕ, ◌+◌, ◌-◌, ◌<◌, ◌≤◌}
 use mathlib.Core.Path.{◌≡◌, ap, sym, ◌∙◌}
-use mathlib.Core.List.{List, ◌∷◌, ◌++◌, append-nil, append_assoc}
-use native.Mathlib.Nat.{add_comm}
+use mathlib.Core.List.{List, [], ◌∷◌, ◌++◌, append-nil, append_assoc}
+use native.Mathlib.Numerals.{add-one}
 use native.Mathlib.Omega.{arith}
 use lib.ListN.{length, take, drop, set, length-drop}
-use lib.Seq.{paste, take-suc-set, drop-set-lt, drop-length, take_all, drop-drop}
+use lib.Seq.{drop-length, take_all, drop-drop}
 use borrow.Rule.Slice.PartMut.{put_mid, Post-is}
 use Rattle.model.specs.Listing.{record_length}
 
--- the size and then the members, written over the start of d
-pub group_put : (d s : List ℕ) (k : ℕ) → 0 < length d → length s ≡ k → paste (set d 0 k) 1 s k ≡ (k ∷ s) ++ drop (record_length k) d
-group_put d s k h e =
-    ap (λ (p : List ℕ). p ++ take k s ++ drop (1 + k) (set d 0 k)) (take-suc-set d 0 k h)
-    ∙ ap (λ (r : List ℕ). (k ∷ r) ++ drop (1 + k) (set d 0 k)) (take_all k s (omega arith))
-    ∙ ap (λ (r : List ℕ). (k ∷ s) ++ r) (drop-set-lt (1 + k) d 0 k (omega arith))
-    ∙ ap (λ (n : ℕ). (k ∷ s) ++ drop n d) (add_comm 1 k)
+-- the size and then the vertices vs, copied over the start of d
+pub group_put : (d vs : List ℕ) → 0 < length d → put_mid 1 (length vs) (set d 0 (length vs)) vs ≡ (length vs ∷ vs) ++ drop (record_length (length vs)) d
+group_put [] vs h = absurd (omega arith)
+group_put (x ∷ d) vs h = ap (λ (m : ℕ). (length vs ∷ vs) ++ drop m (x ∷ d)) (sym (add-one (length vs)))
 
 -- the part from a to the end, lent and back as ys: the whole is its first a entries and then ys
 tail_put : (xs ys : List ℕ) (a : ℕ) → a ≤ length xs → put_mid a (length xs - a) xs ys ≡ take a xs ++ ys

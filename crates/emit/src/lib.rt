@@ -4,21 +4,26 @@
 mod group;
 
 ghost use Rattle.std.specs.Prelude.{◌≤◌, length};
+ghost use Rattle.ranks.specs.Held.{ranked_graph};
 ghost use Rattle.qualify.specs.Qualify.{Asks};
 ghost use Rattle.emit.specs.Emit.{Emitted};
 
 use crate::group::{put_group, record_length};
 use isolation::Settings;
 use qualify::qualifies;
+use ranks::Ranked;
 use state::State;
 
-// What became of a position's group: whether there is one that did not fit, how many entries of the output are used now, the groups put out, 0 or 1,
-// and the entries wanted where one did not fit.
-#[derive(Drop)]
+// What was put out of a position: how many entries of the output are used then, and how many groups are put out, 0 or 1.
+#[derive(Clone, Copy, Debug, PartialEq, Eq)]
 pub struct Put {
-    pub full: bool,
     pub used: usize,
     pub groups: u32,
+}
+
+// The output has no room for a position's group, which wants so many entries.
+#[derive(Clone, Copy, Debug, PartialEq, Eq)]
+pub struct Full {
     pub wanted: usize,
 }
 
@@ -28,41 +33,27 @@ pub struct Put {
 pub fn emit(
     s: State,
     q: Settings,
-    table: &[u8],
-    degrees: &[u16],
-    order: &[u16],
+    g: &Ranked,
     work: &mut [u16],
-    n: usize,
     output: &mut [u16],
     used: usize,
-) -> Put
-    requires { Asks n table.now degrees.now order.now work.old q s × (used ≤ length output.old) }
-    ensures { Emitted n table.now work.old work.new q s used output.old output.new result }
+) -> Result<Put, Full>
+    requires { Asks (ranked_graph g.now) work.old q s × (used ≤ length output.old) }
+    ensures { Emitted (ranked_graph g.now) work.old work.new q s used output.old output.new result }
 {
+    let n = g.ordered.table.n;
     let k = s.taken;
-    if !qualifies(s, q, table, degrees, order, work, n) {
-        return Put {
-            full: false,
-            used,
-            groups: 0,
-            wanted: 0,
-        };
+    if !qualifies(s, q, g, work) {
+        return Ok(Put { used, groups: 0 });
     }
     let entries = record_length(k);
     if output.len() - used < entries {
-        return Put {
-            full: true,
-            used,
-            groups: 0,
-            wanted: entries,
-        };
+        return Err(Full { wanted: entries });
     }
+    put_group(output, used, &work[n..n + k]);
     let end = used + entries;
-    put_group(output, used, work, n, k);
-    Put {
-        full: false,
+    Ok(Put {
         used: end,
         groups: 1,
-        wanted: 0,
-    }
+    })
 }

@@ -1,3 +1,4 @@
 -- The table of a graph, and its refusals.
-pub mod Table
-pub mod Refusals
+pub mod RowBounds
+pub mod Chains
+pub mod Faults

@@ -1,3 +1,5 @@
 -- What the functions over the byte table and the degree list require.
 pub mod Table
 pub mod Degrees
+pub mod Held
+pub mod Given

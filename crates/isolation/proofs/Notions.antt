@@ -1,53 +1,69 @@
--- The tests on a set's numbers by the notion, from what each step of the code gives.
+-- The tests on a set's numbers by the notion, and the numbers that a notion and a kind stand for.
 -- Assumes nothing.
-use Prim.Native.Nat.{ℕ, zero, suc, ◌+◌, ◌-◌, ◌*◌, ◌≤◌}
-use mathlib.Core.Path.{◌≡◌, refl}
-use mathlib.Core.Bool.{Bool, false, not}
-use mathlib.Core.Logic.{◌≢◌}
-use native.Mathlib.Nat.{mul-le-mul}
+use Rattle.std.proofs.Common.{◌≡◌, ◌≢◌, ℕ, zero, suc, ◌+◌, ◌-◌, ◌*◌, Bool, false, not, refl}
 use Rattle.model.specs.Groups.{Factor, within}
 use Rattle.theory.specs.Search.{isolated_by, hopeless}
+use Rattle.isolation.specs.declared.Kind.TheVariants.{MaximalIsolated, IsolatedMaximal}
+use Rattle.isolation.specs.declared.Notion.{Notion}
+use Rattle.isolation.specs.declared.Notion.TheVariants.{Min, Avg, Max}
+use Rattle.isolation.specs.Numbers.{notion_of, kind_of}
 
--- a product of two numbers up to 1,024
-pub product_small : (a b : ℕ) → a ≤ 1024 → b ≤ 1024 → a * b ≤ 1048576
-product_small a b h l = mul-le-mul h l
+-- ---- the numbers, as a match on the notion or on the kind gives them
 
--- the isolation test r: notion 0, 1 and above
-module _ (notion : ℕ) (c : Factor) (k sum least largest : ℕ) {others x : ℕ} {r : Bool} where
-  pub isolated_min_lem : notion ≡ 0 → others ≡ k - 1 → x ≡ least - others → r ≡ within c 1 x → r ≡ isolated_by notion c k sum least largest
-  unfolding isolated_by
-  isolated_min_lem e o d t = rw (e, t, d, o)
+-- min is 0
+pub min-number : (m : ℕ) → Min ≡ notion_of m → m ≡ 0
+min-number zero e = refl
+min-number (suc zero) e = absurd (cc e)
+min-number (suc (suc m)) e = absurd (cc e)
 
-  pub isolated_avg_lem : notion ≡ 1 → others ≡ k - 1 → x ≡ sum - k * others → r ≡ within c k x → r ≡ isolated_by notion c k sum least largest
-  unfolding isolated_by
-  isolated_avg_lem e o d t = rw (e, t, d, o)
+-- avg is 1
+pub avg-number : (m : ℕ) → Avg ≡ notion_of m → m ≡ 1
+avg-number zero e = absurd (cc e)
+avg-number (suc zero) e = refl
+avg-number (suc (suc m)) e = absurd (cc e)
 
-  pub isolated_max_lem : notion ≢ 0 → notion ≢ 1 → others ≡ k - 1 → x ≡ largest - others → r ≡ within c 1 x → r ≡ isolated_by notion c k sum least largest
-  unfolding isolated_by
-  isolated_max_lem a b o d t = rw (t, d, o) (go notion a b)
-    where
-      go : (m : ℕ) → m ≢ 0 → m ≢ 1 → within c 1 (largest - (k - 1)) ≡ isolated_by m c k sum least largest
-      go zero a b = absurd (a refl)
-      go (suc zero) a b = absurd (b refl)
-      go (suc (suc m)) a b = refl
+-- max is neither
+pub max-number : (m : ℕ) → Max ≡ notion_of m → (m ≢ 0) × (m ≢ 1)
+max-number zero e = absurd (cc e)
+max-number (suc zero) e = absurd (cc e)
+max-number (suc (suc m)) e = ((λ h. cc h), (λ h. cc h))
 
--- whether nothing larger is isolated: notion 0, 1 and above
-module _ (notion : ℕ) (c : Factor) (k further sum largest : ℕ) where
-  pub hopeless-min : notion ≡ 0 → false ≡ hopeless notion c k further sum largest
-  unfolding hopeless
-  hopeless-min e = rw e
+-- maximal isolated is 0
+pub maximal_isolated-number : (k : ℕ) → MaximalIsolated ≡ kind_of k → k ≡ 0
+maximal_isolated-number zero e = refl
+maximal_isolated-number (suc k) e = absurd (cc e)
 
-  module _ {others x : ℕ} {r : Bool} where
-    pub hopeless_avg : notion ≡ 1 → others ≡ k + further - 1 → x ≡ sum - k * others → r ≡ within c (k + further) x → not r ≡ hopeless notion c k further sum largest
-    unfolding hopeless
-    hopeless_avg e o d t = rw (e, t, d, o)
+-- isolated maximal is not
+pub isolated_maximal-number : (k : ℕ) → IsolatedMaximal ≡ kind_of k → k ≢ 0
+isolated_maximal-number zero e = absurd (cc e)
+isolated_maximal-number (suc k) e = λ h. cc h
 
-    pub hopeless-max : notion ≢ 0 → notion ≢ 1 → others ≡ k + further - 1 → x ≡ largest - others → r ≡ within c 1 x
-        → not r ≡ hopeless notion c k further sum largest
-    unfolding hopeless
-    hopeless-max a b o d t = rw (t, d, o) (go notion a b)
-      where
-        go : (m : ℕ) → m ≢ 0 → m ≢ 1 → not (within c 1 (largest - (k + further - 1))) ≡ hopeless m c k further sum largest
-        go zero a b = absurd (a refl)
-        go (suc zero) a b = absurd (b refl)
-        go (suc (suc m)) a b = refl
+-- ---- the tests by the notion that a match has found, from the number of a member's others
+
+-- the isolation test of k members with so many others each
+abbrev isolated_at : Notion → Factor → ℕ → ℕ → ℕ → ℕ → ℕ → Bool
+isolated_at Min c k others sum least largest = within c 1 (least - others)
+isolated_at Avg c k others sum least largest = within c k (sum - k * others)
+isolated_at Max c k others sum least largest = within c 1 (largest - others)
+
+-- it is the theory's, which goes by the notion's number
+pub isolated-at : {n : Notion} (m : ℕ) {others : ℕ} (c : Factor) (k sum least largest : ℕ) → n ≡ notion_of m → others ≡ k - 1
+    → isolated_at n c k others sum least largest ≡ isolated_by m c k sum least largest
+unfolding isolated_by
+isolated-at zero c k sum least largest e o = rw (e, o)
+isolated-at (suc zero) c k sum least largest e o = rw (e, o)
+isolated-at (suc (suc m)) c k sum least largest e o = rw (e, o)
+
+-- whether nothing larger is isolated, of k members with at most so many others each in it, all members being all
+abbrev hopeless_at : Notion → Factor → ℕ → ℕ → ℕ → ℕ → ℕ → Bool
+hopeless_at Min c k all most sum largest = false
+hopeless_at Avg c k all most sum largest = not (within c all (sum - k * most))
+hopeless_at Max c k all most sum largest = not (within c 1 (largest - most))
+
+-- it is the theory's, which goes by the notion's number
+pub hopeless-at : {n : Notion} (m : ℕ) {most : ℕ} (c : Factor) (k r sum largest : ℕ) → n ≡ notion_of m → most ≡ k + r - 1
+    → hopeless_at n c k (k + r) most sum largest ≡ hopeless m c k r sum largest
+unfolding hopeless
+hopeless-at zero c k r sum largest e o = rw e
+hopeless-at (suc zero) c k r sum largest e o = rw (e, o)
+hopeless-at (suc (suc m)) c k r sum largest e o = rw (e, o)

@@ -1,15 +1,31 @@
 -- The settings and a set's numbers as code hands them on, and the tests of `Rattle.theory.specs.Search` over them.
 -- Assumes nothing.
-use Rattle.std.specs.Prelude.{ℕ, ◌+◌, ◌≤◌, min, max, Bool, List}
+use Rattle.std.specs.Prelude.{ℕ, zero, suc, ◌+◌, ◌≤◌, min, max, Bool, List}
 use Rattle.model.specs.Graph.{Graph}
 use Rattle.model.specs.Groups as groups
 use Rattle.theory.specs.Search as search
+use Rattle.isolation.specs.declared.Kind.{Kind}
+use Rattle.isolation.specs.declared.Kind.TheVariants.{MaximalIsolated, IsolatedMaximal}
+use Rattle.isolation.specs.declared.Notion.{Notion}
+use Rattle.isolation.specs.declared.Notion.TheVariants.{Min, Avg, Max}
 use Rattle.isolation.specs.declared.Settings.{Settings}
 use Rattle.isolation.specs.declared.Tally.{Tally}
 
 -- the settings of document 01
 abbrev pub settings_of : Settings → groups.Settings
 settings_of s = record { notion = s.notion; kind = s.kind; factor = s.factor }
+
+-- the notion that a number stands for in document 01: 0 min, 1 avg, 2 max. A number over 2 is refused before a notion is asked for, and is read as max
+abbrev pub notion_of : ℕ → Notion
+notion_of zero = Min
+notion_of (suc zero) = Avg
+notion_of (suc (suc n)) = Max
+
+-- the kind that a number stands for in document 01: 0 maximal isolated, 1 isolated maximal. A number over 1 is refused before a kind is asked for, and
+-- is read as isolated maximal
+abbrev pub kind_of : ℕ → Kind
+kind_of zero = MaximalIsolated
+kind_of (suc k) = IsolatedMaximal
 
 -- the numbers with one more member, of degree d
 abbrev pub with_member : Tally → ℕ → Tally

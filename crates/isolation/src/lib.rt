@@ -1,13 +1,32 @@
 // The settings of a call, and the isolation test over a set's numbers.
 #![tactic(auto)]
 
-ghost use Rattle.std.specs.Prelude.{◌≡◌, ◌+◌, ◌-◌, ◌≤◌, min, max};
+ghost use Rattle.std.specs.Prelude.{◌≡◌, ◌+◌, ◌≤◌};
 ghost use Rattle.model.specs.Groups.{within};
 ghost use Rattle.model.specs.Calls.{refuse_settings};
-ghost use Rattle.isolation.specs.Numbers.{settings_of, with_member, Small, isolated_of, hopeless_of};
+ghost use Rattle.refusal.specs.Numbers.{fault};
+ghost use Rattle.isolation.specs.Numbers.{settings_of, notion_of, kind_of, with_member, Small, isolated_of, hopeless_of};
 
-// What a call fixes beside the graph: notion 0 min, 1 avg, 2 max; kind 0 maximal isolated, 1 isolated maximal; the factor c.
-#[derive(Clone, Copy)]
+use refusal::Refusal;
+
+// What is held against the factor c, document 002, section 2.1: of the members' outside counts the least, their sum, or the largest.
+#[derive(Clone, Copy, Debug, PartialEq, Eq)]
+pub enum Notion {
+    Min,
+    Avg,
+    Max,
+}
+
+// Which larger sets keep an isolated clique off the list: any larger isolated clique (maximal isolated), or any larger clique (isolated maximal).
+#[derive(Clone, Copy, Debug, PartialEq, Eq)]
+pub enum Kind {
+    MaximalIsolated,
+    IsolatedMaximal,
+}
+
+// What a call fixes beside the graph: notion 0 min, 1 avg, 2 max; kind 0 maximal isolated, 1 isolated maximal; the factor c. They are numbers, not
+// the enums above: C hands over any numbers, and the refusals 6 to 8 of them come only after those of the graph.
+#[derive(Clone, Copy, Debug, PartialEq, Eq)]
 pub struct Settings {
     pub notion: u32,
     pub kind: u32,
@@ -15,7 +34,7 @@ pub struct Settings {
 }
 
 // A set's numbers: how many members, the sum of their degrees, the least and the largest of them.
-#[derive(Clone, Copy)]
+#[derive(Clone, Copy, Debug, PartialEq, Eq)]
 pub struct Tally {
     pub members: usize,
     pub sum: usize,
@@ -23,99 +42,98 @@ pub struct Tally {
     pub largest: usize,
 }
 
-// The refusal number of any settings: 6 to 8 of document 01, "Turned back by the input", lowest number first, and 0 where all three tests pass.
-pub fn settings_refusal(s: Settings) -> u32
-    ensures { result ≡ refuse_settings (settings_of s) }
-{
-    if 2 < s.notion {
-        return 6;
+// The largest factor that is not refused, document 01.
+const LARGEST_FACTOR: u32 = 1024;
+
+impl Settings {
+    // The notion by its number in document 01; every number over 1 is read as max, of which the settings that pass the check have only 2.
+    pub fn notion(self) -> Notion
+        ensures { result ≡ notion_of self.notion }
+    {
+        match self.notion {
+            0 => Notion::Min,
+            1 => Notion::Avg,
+            _ => Notion::Max,
+        }
     }
-    if 1 < s.kind {
-        return 7;
+
+    // The kind by its number in document 01; every number over 0 is read as isolated maximal, of which the settings that pass the check have only 1.
+    pub fn kind(self) -> Kind
+        ensures { result ≡ kind_of self.kind }
+    {
+        match self.kind {
+            0 => Kind::MaximalIsolated,
+            _ => Kind::IsolatedMaximal,
+        }
     }
-    if s.factor == 0 {
-        return 8;
+
+    // The refusal of any settings: 6 to 8 of document 01, "Turned back by the input", lowest number first, and none where all three tests pass.
+    pub fn check(self) -> Result<(), Refusal>
+        ensures { fault result ≡ refuse_settings (settings_of self) }
+    {
+        if 2 < self.notion {
+            return Err(Refusal::Notion);
+        }
+        if 1 < self.kind {
+            return Err(Refusal::Kind);
+        }
+        if self.factor == 0 || LARGEST_FACTOR < self.factor {
+            return Err(Refusal::Factor);
+        }
+        Ok(())
     }
-    if 1024 < s.factor {
-        return 8;
+
+    // Whether x is less than c × k, c being the factor: the one comparison with it. Document 002, section 2.1: "less than", never "at most".
+    pub fn within(self, k: usize, x: usize) -> bool
+        requires { Small self k }
+        ensures { result ≡ within (settings_of self).factor k x }
+    {
+        // The library, as Rust's, has no From that leads from u32 to usize.
+        let bound = (self.factor as usize) * k;
+        x < bound
     }
-    0
+
+    // The isolation test of a clique with the numbers t, a member of degree d having d - (k - 1) neighbours outside the k members. Document 002,
+    // section 2.1: min, at least one member has less than c of them; avg, there are less than c × k in all; max, every member has less than c.
+    pub fn isolates(self, t: Tally) -> bool
+        requires { Small self t.members }
+        ensures { result ≡ isolated_of self t }
+    {
+        let others = t.members.saturating_sub(1);
+        match self.notion() {
+            Notion::Min => self.within(1, t.least.saturating_sub(others)),
+            Notion::Avg => self.within(t.members, t.sum.saturating_sub(t.members * others)),
+            Notion::Max => self.within(1, t.largest.saturating_sub(others)),
+        }
+    }
+
+    // Whether no superset of a set with the numbers t, within r further candidates, is isolated: each member loses at most r more of its neighbours
+    // outside. Under min it says no.
+    pub fn hopeless(self, t: Tally, r: usize) -> bool
+        requires { Small self (t.members + r) }
+        ensures { result ≡ hopeless_of self t r }
+    {
+        let all = t.members + r;
+        let most = all.saturating_sub(1);
+        match self.notion() {
+            Notion::Min => false,
+            Notion::Avg => !self.within(all, t.sum.saturating_sub(t.members * most)),
+            Notion::Max => !self.within(1, t.largest.saturating_sub(most)),
+        }
+    }
 }
 
-// a less b, and 0 where b is larger.
-pub fn less(a: usize, b: usize) -> usize
-    ensures { result ≡ a - b }
-{
-    if a < b { 0 } else { a - b }
-}
-
-// The smaller of a and b.
-fn smaller(a: usize, b: usize) -> usize
-    ensures { result ≡ min a b }
-{
-    if b < a { b } else { a }
-}
-
-// The greater of a and b.
-fn greater(a: usize, b: usize) -> usize
-    ensures { result ≡ max a b }
-{
-    if a < b { b } else { a }
-}
-
-// Whether x is less than c × k, c being the factor of the settings: the one comparison with it. Document 002, section 2.1: "less than", never "at most".
-pub fn within(s: Settings, k: usize, x: usize) -> bool
-    requires { Small s k }
-    ensures { result ≡ within (settings_of s).factor k x }
-{
-    let bound = (s.factor as usize) * k;
-    x < bound
-}
-
-// The isolation test of a clique with the numbers t, a member of degree d having d - (k - 1) neighbours outside the k members. Document 002, section
-// 2.1: min (0), at least one member has less than c of them; avg (1), there are less than c × k in all; max (2), every member has less than c.
-pub fn isolated_by(s: Settings, t: Tally) -> bool
-    requires { Small s t.members }
-    ensures { result ≡ isolated_of s t }
-{
-    let others = less(t.members, 1);
-    if s.notion == 0 {
-        return within(s, 1, less(t.least, others));
-    }
-    if s.notion == 1 {
-        return within(s, t.members, less(t.sum, t.members * others));
-    }
-    within(s, 1, less(t.largest, others))
-}
-
-// Whether no superset of a set with the numbers t, within r further candidates, is isolated: each member loses at most r more of its neighbours outside.
-// Under min it says no.
-pub fn hopeless(s: Settings, t: Tally, r: usize) -> bool
-    requires { Small s (t.members + r) }
-    ensures { result ≡ hopeless_of s t r }
-{
-    let all = t.members + r;
-    let most = less(all, 1);
-    if s.notion == 0 {
-        return false;
-    }
-    if s.notion == 1 {
-        return !within(s, all, less(t.sum, t.members * most));
-    }
-    !within(s, 1, less(t.largest, most))
-}
-
-// The numbers t with one more member, of degree d.
-pub fn with_member(t: Tally, d: usize) -> Tally
-    requires { (t.members ≤ 1024) × (t.sum ≤ 67107840) × (d ≤ 65535) }
-    ensures { result ≡ with_member t d }
-{
-    let least = smaller(t.least, d);
-    let largest = greater(t.largest, d);
-    Tally {
-        members: t.members + 1,
-        sum: t.sum + d,
-        least,
-        largest,
+impl Tally {
+    // The numbers with one more member, of degree d.
+    pub fn with_member(self, d: usize) -> Tally
+        requires { (self.members ≤ 1024) × (self.sum ≤ 67107840) × (d ≤ 65535) }
+        ensures { result ≡ with_member self d }
+    {
+        Tally {
+            members: self.members + 1,
+            sum: self.sum + d,
+            least: self.least.min(d),
+            largest: self.largest.max(d),
+        }
     }
 }

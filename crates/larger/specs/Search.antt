@@ -1,22 +1,14 @@
 -- What the search for a larger isolated clique requires and leaves behind.
 -- Assumes nothing.
-use Rattle.std.specs.Prelude.{ℕ, ◌+◌, ◌-◌, ◌*◌, ◌≤◌, ◌≡◌, Bool, List, length, drop}
+use Rattle.std.specs.Prelude.{ℕ, ◌+◌, ◌-◌, ◌*◌, ◌≤◌, ◌≡◌, Bool, List, drop}
+use Rattle.model.specs.Graph.{Graph}
 use Rattle.model.specs.Groups.{VertexSet}
 use Rattle.model.specs.Meaning.{Clique, Loopless, Symmetric}
 use Rattle.theory.specs.Search.{Candidates}
-use Rattle.graph.specs.Table.{TableFits, graph_of}
-use Rattle.graph.specs.Degrees.{DegreesFit, HoldsDegrees}
 use Rattle.isolation.specs.declared.Settings.{Settings}
 use Rattle.isolation.specs.declared.Tally.{Tally}
 use Rattle.isolation.specs.Numbers.{FactorFits, find_of, beaten_of, TallyOf}
 use Rattle.theory.specs.Parts.{part, members_at, candidates_at, SamePart, StateKept, HoldsVertices}
-
--- the table holds a graph of n vertices, the list its degrees, and the work slice has the parts 0 to 3
-pub record SearchFits (n : ℕ) (t d w : List ℕ) : Type 0 where
-  pub table : TableFits n t
-  pub degrees-fit : DegreesFit n d
-  pub degrees : HoldsDegrees n (graph_of n t) d
-  pub parts : 4 * n ≤ length w
 
 -- A state of the search: of the members with the numbers y those from place base on in part 1 were added by it, and candidates i to m - 1 of part 3
 -- are left. There is room in part 1 for these, and the sum of degrees is small.
@@ -35,23 +27,23 @@ pub record SearchKept (n k m : ℕ) (before after : List ℕ) : Type 0 where
   pub candidates : SamePart (candidates_at n) m before after
 
 -- what the search answers, and what it keeps
-pub record Searched (n : ℕ) (t before after : List ℕ) (s : Settings) (y : Tally) (base i m : ℕ) (r : Bool) : Type 0 where
-  pub answer : r ≡ find_of (graph_of n t) s (part before (members_at n + base) (y.members - base)) y (drop i (part before (candidates_at n) m))
-  pub kept : SearchKept n y.members m before after
+pub record Searched (G : Graph) (before after : List ℕ) (s : Settings) (y : Tally) (base i m : ℕ) (r : Bool) : Type 0 where
+  pub answer : r ≡ find_of G s (part before (members_at G.size + base) (y.members - base)) y (drop i (part before (candidates_at G.size) m))
+  pub kept : SearchKept G.size y.members m before after
 
 -- The question that `beaten` answers: the numbers y are those of a clique in a graph with no loops that is symmetric, and the first m entries of
 -- part 3 are its common neighbours. There is room in part 1 for the members and these.
-pub record Posed (n : ℕ) (t w : List ℕ) (s : Settings) (y : Tally) (m : ℕ) : Type 0 where
+pub record Posed (G : Graph) (w : List ℕ) (s : Settings) (y : Tally) (m : ℕ) : Type 0 where
   pub set : VertexSet
   pub factor : FactorFits s
-  pub room : y.members + m ≤ n
-  pub loopless : Loopless (graph_of n t)
-  pub symmetric : Symmetric (graph_of n t)
-  pub clique : Clique (graph_of n t) set
-  pub tally : TallyOf (graph_of n t) set y
-  pub candidates : Candidates (graph_of n t) set (part w (candidates_at n) m)
+  pub room : y.members + m ≤ G.size
+  pub loopless : Loopless G
+  pub symmetric : Symmetric G
+  pub clique : Clique G set
+  pub tally : TallyOf G set y
+  pub candidates : Candidates G set (part w (candidates_at G.size) m)
 
 -- its answer, and that the state's entries are as they were
-pub record Tested (n : ℕ) (t before after : List ℕ) (s : Settings) (y : Tally) (m : ℕ) (r : Bool) : Type 0 where
-  pub answer : r ≡ beaten_of (graph_of n t) s y (part before (candidates_at n) m)
-  pub kept : StateKept n y.members before after
+pub record Tested (G : Graph) (before after : List ℕ) (s : Settings) (y : Tally) (m : ℕ) (r : Bool) : Type 0 where
+  pub answer : r ≡ beaten_of G s y (part before (candidates_at G.size) m)
+  pub kept : StateKept G.size y.members before after

@@ -1,18 +1,18 @@
 -- What the definition of a line's step comes to at each first letter. Assumes nothing.
-use Prim.Native.Nat.{ℕ, ◌*◌, ◌-◌, ◌≤◌, ◌<◌}
-use mathlib.Core.Path.{◌≡◌, refl, sym, ap, ap₂, ◌∙◌}
-use mathlib.Core.Bool.{Bool, true, false, ◌&&◌, not, false≢true}
+use Prim.Native.Nat.{ℕ, ◌*◌, ◌-◌, ◌≤◌}
+use mathlib.Core.Path.{◌≡◌, refl, sym, ap, ◌∙◌}
+use mathlib.Core.Bool.{Bool, true, false, not, cond, and-false}
+use mathlib.Core.Logic.{◌⊎◌, inl, inr}
 use mathlib.Core.List.{List, [], ◌∷◌, ◌++◌}
-use native.Mathlib.Nat.{not-suc-le-zero}
 use native.Mathlib.Omega.{arith}
 use lib.ListN.{length, get_or, take, drop, replicate, take-append-drop}
-use lib.Seq.{take_all, drop-cons}
 use lib.Dec.{ltb, eqb}
-use borrow.Author.Tests.{ne_eqb, eqb-true, not-false}
+use borrow.Author.Tests.{ne_eqb, eqb-true}
+use Rattle.std.proofs.lemmas.List.{take_rest}
 use Rattle.model.specs.Text.{Reading, Step, bad, next, fault, line_step, unspaced, fields_of, p_fields, e_fields, p_line, e_line, same}
 use Rattle.number.specs.Field.{two_of}
-use Rattle.number.proofs.Splits.{part_tail}
-use Rattle.lines.specs.Line.{FirstByte}
+use Rattle.std.specs.Prelude.{◌≢◌}
+use Rattle.lines.specs.Line.{StartsWith}
 use Rattle.theory.proofs.Text.EdgeTextFields.{parted, Fields, fields_view, same_word}
 use Rattle.theory.proofs.Text.EdgeTextStep.{out_by, joined_by}
 
@@ -39,62 +39,56 @@ pub problem_tests : (room n m : ℕ) →
 unfolding p_line
 problem_tests room n m = refl
 
--- ---- the byte after the first letter
+-- ---- the first two bytes
 
--- a line of one byte has none
-pub short-unspaced : (line : List ℕ) → length line < 2 → unspaced (drop 1 line) ≡ true
-unfolding unspaced
-short-unspaced [] h = refl
-short-unspaced (x ∷ []) h = refl
-short-unspaced (x ∷ y ∷ l) h = absurd (omega arith)
+-- a line that starts with them
+pub two_bytes : (line : List ℕ) (a b : ℕ) → 2 ≤ length line → get_or line 0 0 ≡ a → get_or line 1 0 ≡ b → line ≡ a ∷ b ∷ take (length line - 2) (drop 2 line)
+two_bytes [] a b h e f = absurd (omega arith)
+two_bytes (x ∷ []) a b h e f = absurd (omega arith)
+two_bytes (x ∷ y ∷ l) a b h e f = rw (e, f, take_rest (x ∷ y ∷ l) 2)
 
-pub second-unspaced : (line : List ℕ) → 2 ≤ length line → unspaced (drop 1 line) ≡ not (eqb (get_or line 1 0) 32)
-unfolding unspaced
-second-unspaced [] h = absurd (omega arith)
-second-unspaced (x ∷ []) h = absurd (omega arith)
-second-unspaced (x ∷ y ∷ l) h = refl
-
--- a space after it is a second byte
-pub spaced_long : (line : List ℕ) → unspaced (drop 1 line) ≡ false → 2 ≤ length line
-unfolding unspaced
-spaced_long [] e = absurd (false≢true (sym e))
-spaced_long (x ∷ []) e = absurd (false≢true (sym e))
-spaced_long (x ∷ y ∷ l) e = omega arith
-
--- a first letter and a space
-pub spaced_line : (b : ℕ) (line : List ℕ) → FirstByte b line → unspaced (drop 1 line) ≡ false → line ≡ b ∷ 32 ∷ drop 2 line
-unfolding unspaced
-spaced_line b [] h e = absurd (not-suc-le-zero h.some)
-spaced_line b (x ∷ []) h e = absurd (false≢true (sym e))
-spaced_line b (x ∷ y ∷ l) h e = rw (h.first, eqb-true y 32 (not-false (eqb y 32) e))
-
--- ---- the first letter
+-- what both branches are
+either : (b : Bool) {s x y : Step} → s ≡ x → s ≡ y → s ≡ cond b x y
+either true e f = e
+either false e f = f
 
 module _ (room : ℕ) (r : Reading) where
-  pub line_empty : (line : List ℕ) → length line ≡ 0 → bad 31 ≡ line_step room r line
-  unfolding line_step
-  line_empty [] h = refl
-  line_empty (x ∷ l) h = absurd (omega arith)
+  -- comments: `c` alone, and `c` with a space
+  pub comment_alone : (line : List ℕ) → length line ≡ 1 → get_or line 0 0 ≡ 99 → next r ≡ line_step room r line
+  unfolding line_step fault unspaced
+  comment_alone [] h e = absurd (omega arith)
+  comment_alone (x ∷ []) h e = rw e
+  comment_alone (x ∷ y ∷ l) h e = absurd (omega arith)
 
-  pub line-comment : (line : List ℕ) → FirstByte 99 line → fault 31 (not (eqb (length (drop 1 line)) 0) && unspaced (drop 1 line)) (next r) ≡ line_step room r line
-  unfolding line_step
-  line-comment [] h = absurd (not-suc-le-zero h.some)
-  line-comment (x ∷ l) h = rw h.first
+  pub comment_spaced : (line : List ℕ) → 2 ≤ length line → get_or line 0 0 ≡ 99 → get_or line 1 0 ≡ 32 → next r ≡ line_step room r line
+  unfolding line_step fault unspaced
+  comment_spaced [] h e f = absurd (omega arith)
+  comment_spaced (x ∷ []) h e f = absurd (omega arith)
+  comment_spaced (x ∷ y ∷ l) h e f = rw (e, f, and-false (not (eqb (length (y ∷ l)) 0)))
 
-  pub line-problem : (line : List ℕ) → FirstByte 112 line → fault 31 (unspaced (drop 1 line)) (fault 34 r.passed (p_fields room (fields_of line))) ≡ line_step room r line
-  unfolding line_step
-  line-problem [] h = absurd (not-suc-le-zero h.some)
-  line-problem (x ∷ l) h = rw h.first
+  pub line-problem : {line : List ℕ} → StartsWith (112 ∷ 32 ∷ []) line → fault 34 r.passed (p_fields room (fields_of line)) ≡ line_step room r line
+  unfolding line_step fault unspaced
+  line-problem h = rw h.1 refl
 
-  pub line-edge : (line : List ℕ) → FirstByte 101 line → fault 31 (unspaced (drop 1 line)) (fault 33 (not r.passed) (e_fields r (fields_of line))) ≡ line_step room r line
-  unfolding line_step
-  line-edge [] h = absurd (not-suc-le-zero h.some)
-  line-edge (x ∷ l) h = rw h.first
+  pub line-edge : (l : List ℕ) → fault 33 (not r.passed) (e_fields r (fields_of (101 ∷ 32 ∷ l))) ≡ line_step room r (101 ∷ 32 ∷ l)
+  unfolding line_step fault unspaced
+  line-edge l = refl
 
-  pub line_other : (line : List ℕ) → (get_or line 0 0 ≡ 99 → ⊥) → (get_or line 0 0 ≡ 112 → ⊥) → (get_or line 0 0 ≡ 101 → ⊥) → bad 31 ≡ line_step room r line
-  unfolding line_step
-  line_other [] c p e = refl
-  line_other (x ∷ l) c p e = rw (ne_eqb x 99 c, ne_eqb x 112 p, ne_eqb x 101 e)
+  -- any other line
+  pub line_other : (line : List ℕ)
+      → (length line ≡ 1 → get_or line 0 0 ≡ 99 → ⊥)
+      → (2 ≤ length line → get_or line 1 0 ≡ 32 → (get_or line 0 0 ≡ 99) ⊎ (get_or line 0 0 ≡ 112) ⊎ (get_or line 0 0 ≡ 101) → ⊥)
+      → bad 31 ≡ line_step room r line
+  unfolding line_step fault unspaced
+  line_other [] alone spaced = refl
+  line_other (x ∷ []) alone spaced = rw (ne_eqb x 99 (alone refl)) (either (eqb x 112) refl (either (eqb x 101) refl refl))
+  line_other (x ∷ y ∷ l) alone spaced = go (eqb y 32) refl
+    where
+      go : (b : Bool) → eqb y 32 ≡ b → bad 31 ≡ line_step room r (x ∷ y ∷ l)
+      go true e =
+          let f = spaced (omega arith) (eqb-true y 32 e) in
+          rw (ne_eqb x 99 (λ q. f (inl q)), ne_eqb x 112 (λ q. f (inr (inl q))), ne_eqb x 101 (λ q. f (inr (inr q))))
+      go false e = rw (e, ne_eqb (length (y ∷ l)) 0 (λ q. omega arith)) (either (eqb x 99) refl (either (eqb x 112) refl (either (eqb x 101) refl refl)))
 
 -- ---- an e line's fields
 
@@ -106,12 +100,9 @@ edge-two r f (a ∷ b ∷ []) = refl
 edge-two r f (a ∷ b ∷ g ∷ fs) = refl
 
 -- U and V stand after the letter and its space
-pub edge_fields : (r : Reading) {line : List ℕ} → FirstByte 101 line → unspaced (drop 1 line) ≡ false
-    → two_of (fields_of (take (length line - 2) (drop 2 line))) (e_line r) ≡ e_fields r (fields_of line)
+pub edge_fields : (r : Reading) (l : List ℕ) → two_of (fields_of l) (e_line r) ≡ e_fields r (fields_of (101 ∷ 32 ∷ l))
 unfolding fields_of
-edge_fields r {line} h e =
-    ap (λ (l : List ℕ). two_of (fields_of l) (e_line r)) (part_tail line 2)
-    ∙ sym (ap (λ (l : List ℕ). e_fields r (fields_of l)) (spaced_line 101 line h e) ∙ edge-two r (101 ∷ []) (fields_of (drop 2 line)))
+edge_fields r l = sym (edge-two r (101 ∷ []) (fields_of l))
 
 -- ---- a p line's fields
 
@@ -140,59 +131,58 @@ edge-first : (fs : List (List ℕ)) → take 4 (parted edge_word fs) ≡ edge_wo
 edge-first [] = refl
 edge-first (f ∷ fs) = refl
 
+-- a longer word than `edge`
+longer : (room x : ℕ) (l : List ℕ) → x ≢ 32 → p_fields room (fields_of (p_edge ++ x ∷ l)) ≡ bad 32
+unfolding fields_of same fault
+longer room x l ne =
+    ap (λ (fs : List (List ℕ)). p_fields room ((112 ∷ []) ∷ fs)) word
+    ∙ problem-two room (112 ∷ []) (101 ∷ 100 ∷ 103 ∷ 101 ∷ x ∷ r.field) r.more
+  where
+    r : Fields l
+    r = fields_view l
+
+    word : fields_of (101 ∷ 100 ∷ 103 ∷ 101 ∷ x ∷ l) ≡ (101 ∷ 100 ∷ 103 ∷ 101 ∷ x ∷ r.field) ∷ r.more
+    word = rw (ne_eqb x 32 ne, r.are)
+
 -- a line that starts otherwise
-pub problem-other : (room : ℕ) (line : List ℕ) → FirstByte 112 line → unspaced (drop 1 line) ≡ false → (take 6 line ≡ p_edge → ⊥) → bad 32 ≡ p_fields room (fields_of line)
+pub problem-other : (room : ℕ) {line : List ℕ} → StartsWith (112 ∷ 32 ∷ []) line → ((rest : List ℕ) → line ≢ p_edge ++ rest) → bad 32 ≡ p_fields room (fields_of line)
 unfolding fields_of fault
-problem-other room line h e other =
+problem-other room {line} h other =
     sym
-    (ap (λ (l : List ℕ). p_fields room (fields_of l)) (spaced_line 112 line h e)
+    (ap (λ (l : List ℕ). p_fields room (fields_of l)) h.1
     ∙ ap (λ (fs : List (List ℕ)). p_fields room ((112 ∷ []) ∷ fs)) r.are
     ∙ problem-two room (112 ∷ []) r.field r.more
     ∙ go (same r.field edge_word) refl)
   where
-    r : Fields (drop 2 line)
-    r = fields_view (drop 2 line)
+    r : Fields h.0
+    r = fields_view h.0
 
     starts : r.field ≡ edge_word → take 6 line ≡ p_edge
     starts w =
-        ap (λ (l : List ℕ). take 6 l) (spaced_line 112 line h e)
+        ap (λ (l : List ℕ). take 6 l) h.1
         ∙ ap (λ (l : List ℕ). 112 ∷ 32 ∷ take 4 l) (r.bytes ∙ ap (λ (v : List ℕ). parted v r.more) w)
         ∙ ap (λ (l : List ℕ). 112 ∷ 32 ∷ l) (edge-first r.more)
 
     go : (b : Bool) → same r.field edge_word ≡ b → fault 32 (not b) (two_of r.more (p_line room)) ≡ bad 32
-    go true q = absurd (other (starts (same_word r.field edge_word q)))
+    go true q =
+        let e = starts (same_word r.field edge_word q) in
+        absurd (other (drop 6 line) (sym (take-append-drop 6 line) ∙ ap (λ (l : List ℕ). l ++ drop 6 line) e))
     go false q = refl
 
--- nothing after the six bytes
-pub problem_bare : (room : ℕ) (line : List ℕ) → take 6 line ≡ p_edge → length line < 7 → bad 32 ≡ p_fields room (fields_of line)
-unfolding fields_of p_fields
-problem_bare room line s h = sym (ap (λ (l : List ℕ). p_fields room (fields_of l)) (sym (take_all 6 line (omega arith)) ∙ s))
+module _ (room : ℕ) {line rest : List ℕ} (h : line ≡ p_edge ++ rest) where
+  -- no space after the six bytes
+  pub problem-unspaced : ((l : List ℕ) → rest ≢ 32 ∷ l) → bad 32 ≡ p_fields room (fields_of line)
+  unfolding fields_of p_fields
+  problem-unspaced other = sym (ap (λ (l : List ℕ). p_fields room (fields_of l)) h ∙ go rest other)
+    where
+      go : (l : List ℕ) → ((k : List ℕ) → l ≢ 32 ∷ k) → p_fields room (fields_of (p_edge ++ l)) ≡ bad 32
+      go [] ne = refl
+      go (x ∷ l) ne = longer room x l (λ e. ne l (ap (λ (k : ℕ). k ∷ l) e))
 
--- the six bytes and what stands after them
-after_p_edge : (line : List ℕ) → take 6 line ≡ p_edge → 7 ≤ length line → line ≡ p_edge ++ get_or line 6 0 ∷ drop 7 line
-after_p_edge line s h = sym (take-append-drop 6 line) ∙ ap₂ {C = List ℕ} (λ a b. a ++ b) s (drop-cons line 6 0 h)
-
-pub problem-unspaced : (room : ℕ) (line : List ℕ) → take 6 line ≡ p_edge → 7 ≤ length line → (get_or line 6 0 ≡ 32 → ⊥) → bad 32 ≡ p_fields room (fields_of line)
-unfolding fields_of same fault
-problem-unspaced room line s h joined =
-    sym
-    (ap (λ (l : List ℕ). p_fields room (fields_of l)) (after_p_edge line s h)
-    ∙ ap (λ (fs : List (List ℕ)). p_fields room ((112 ∷ []) ∷ fs)) (longer (get_or line 6 0) (drop 7 line) joined)
-    ∙ problem-two room (112 ∷ []) (101 ∷ 100 ∷ 103 ∷ 101 ∷ get_or line 6 0 ∷ r.field) r.more
-    ∙ refl)
-  where
-    r : Fields (drop 7 line)
-    r = fields_view (drop 7 line)
-
-    longer : (x : ℕ) (l : List ℕ) → (x ≡ 32 → ⊥) → fields_of (101 ∷ 100 ∷ 103 ∷ 101 ∷ x ∷ l) ≡ (101 ∷ 100 ∷ 103 ∷ 101 ∷ x ∷ (fields_view l).field) ∷ (fields_view l).more
-    longer x l ne = rw (ne_eqb x 32 ne, (fields_view l).are)
-
--- a space, and then two numbers
-pub problem_fields : (room : ℕ) (line : List ℕ) → take 6 line ≡ p_edge → 7 ≤ length line → get_or line 6 0 ≡ 32
-    → two_of (fields_of (take (length line - 7) (drop 7 line))) (p_line room) ≡ p_fields room (fields_of line)
-unfolding fields_of same fault
-problem_fields room line s h e =
-    ap (λ (l : List ℕ). two_of (fields_of l) (p_line room)) (part_tail line 7)
-    ∙ sym
-    (ap (λ (l : List ℕ). p_fields room (fields_of l)) (after_p_edge line s h ∙ ap (λ (x : ℕ). p_edge ++ x ∷ drop 7 line) e)
-    ∙ problem-two room (112 ∷ []) edge_word (fields_of (drop 7 line)))
+  -- a space, and then two numbers
+  pub problem_fields : {l : List ℕ} → rest ≡ 32 ∷ l → two_of (fields_of l) (p_line room) ≡ p_fields room (fields_of line)
+  unfolding fields_of same fault
+  problem_fields {l} e =
+      sym
+      (ap (λ (k : List ℕ). p_fields room (fields_of k)) (h ∙ ap (λ (k : List ℕ). p_edge ++ k) e)
+      ∙ problem-two room (112 ∷ []) edge_word (fields_of l))

@@ -1,90 +1,45 @@
-// One line of the text: what it says, or its fault by document 01's number and in its order.
+// One line of the text: what it says, or its refusal, in document 01's order.
 #![tactic(auto)]
 
-pub mod table;
+pub mod said;
 
-ghost use Rattle.std.specs.Prelude.{◌≡◌, true, not, ◌&&◌, ◌+◌, ◌<◌, ◌^◌, length, take, drop, eqb};
-ghost use Rattle.model.specs.Text.{p_line, e_line, line_step, unspaced};
-ghost use Rattle.lines.specs.Line.{FirstByte, reading_of, start, ReadingFits, LineRead, FirstLine, EdgeFirst};
+ghost use Rattle.std.specs.Prelude.{◌+◌, ◌<◌, ◌^◌, [], ◌∷◌, length, take, IfSome};
+ghost use Rattle.std.specs.Result.{result_ok};
+ghost use Rattle.model.specs.Text.{p_line, e_line, line_step};
+ghost use Rattle.lines.specs.Line.{StartsWith, reading_of, edges_of, ProblemRead, ReadingFits, LineRead, FirstLine, EdgeFirst};
 
-use number::Pair;
+use crate::said::Said;
+use refusal::Refusal;
 
-// What the lines so far say: whether a p line passed, its N and M, and the count of e lines.
+// An e line in form that byte 10 ends: its U, V and length.
 #[derive(Clone, Copy)]
-pub struct Said {
-    pub passed: bool,
-    pub vertices: usize,
-    pub stated: usize,
-    pub edges: usize,
-}
-
-// A line is at fault, with its number, or the reading goes on.
-#[derive(Drop)]
-pub enum Outcome {
-    Bad(u32),
-    Next(Said),
-}
-
-// The first line of a text: an e line in form that byte 10 ends, with its U, V and length. `Other` says nothing of the line.
-#[derive(Drop)]
-enum First {
-    Edge(usize, usize, usize),
-    Other,
+struct EdgeLine {
+    u: usize,
+    v: usize,
+    length: usize,
 }
 
 // What came of the first line of a text, and its length.
 #[derive(Drop)]
 pub struct Passage {
-    pub outcome: Outcome,
+    pub outcome: Result<(), Refusal>,
     pub length: usize,
 }
 
-// Whether a line starts with these bytes, as a p line "starts with the six bytes `p edge`".
-fn starts(line: &[u8], head: &[u8]) -> bool
-    ensures { (result ≡ true → take (length head.now) line.now ≡ head.now) × (take (length head.now) line.now ≡ head.now → result ≡ true) }
-{
-    if line.len() < head.len() {
-        return false;
-    }
-    let k = head.len();
-    check::same(&line[..k], head)
-}
-
-// Whether no space stands after the first letter, which is 31.
-fn unspaced(line: &[u8]) -> bool
-    ensures { result ≡ unspaced (drop 1 line.now) }
-{
-    if line.len() < 2 {
-        return true;
-    }
-    line[1] != b' '
-}
-
-// Whether a line that starts with c is a comment: "`c` alone, `c` with a space and any bytes".
-fn comment(line: &[u8]) -> bool
-    ensures { result ≡ not (not (eqb (length (drop 1 line.now)) 0) && unspaced (drop 1 line.now)) }
-{
-    if line.len() < 2 {
-        return true;
-    }
-    !unspaced(line)
-}
-
 // A p line's numbers: 35 N over 1,024; 40 table under N × N.
-fn problem(table: &mut [u8], n: usize, m: usize) -> Outcome
+fn problem(table: &mut [u8], n: usize, m: usize) -> Result<Said, Refusal>
     requires { m < 1000000 }
-    ensures { LineRead (p_line (length table.old) n m) start table.old table.new result }
+    ensures { LineRead (p_line (length table.old) n m) None table.old (result_ok result) table.new result }
 {
     if 1024 < n {
-        return Outcome::Bad(35);
+        return Err(Refusal::TextVertices);
     }
     let area = n * n;
     if table.len() < area {
-        return Outcome::Bad(40);
+        return Err(Refusal::TableRoom);
     }
-    crate::table::clear(table, area);
-    Outcome::Next(Said {
-        passed: true,
+    table[..area].fill(0);
+    Ok(Said {
         vertices: n,
         stated: m,
         edges: 0,
@@ -92,157 +47,110 @@ fn problem(table: &mut [u8], n: usize, m: usize) -> Outcome
 }
 
 // An e line's numbers: 36 U or V out of range; 37 U = V. The line counts and its pair is joined, also where the pair stood before.
-fn edge(table: &mut [u8], s: Said, u: usize, v: usize) -> Outcome
-    requires reading_fits { ReadingFits s (length table.old) }
-    requires edges_bound { s.edges + 1 < 2 ^ 64 }
-    ensures { LineRead (e_line (reading_of s table.old) u v) s table.old table.new result }
+fn edge(table: &mut [u8], s: &mut Said, u: usize, v: usize) -> Result<(), Refusal>
+    requires reading_fits { ReadingFits (Some s.old) (length table.old) }
+    requires edges_bound { s.old.edges + 1 < 2 ^ 64 }
+    ensures { LineRead (e_line (reading_of (Some s.old) table.old) u v) (Some s.old) table.old (Some s.new) table.new result }
 {
     let n = s.vertices;
-    if u == 0 {
-        return Outcome::Bad(36); // U is 0
+    if u == 0 || n < u || v == 0 || n < v {
+        return Err(Refusal::EdgeRange);
     }
-    let a = u - 1;
-    if n <= a {
-        return Outcome::Bad(36); // U is over N
+    if u == v {
+        return Err(Refusal::EdgeLoop);
     }
-    if v == 0 {
-        return Outcome::Bad(36); // V is 0
-    }
-    let b = v - 1;
-    if n <= b {
-        return Outcome::Bad(36); // V is over N
-    }
-    if a == b {
-        return Outcome::Bad(37);
-    }
-    let there = a * n + b;
-    let back = b * n + a;
+    let there = (u - 1) * n + (v - 1);
+    let back = (v - 1) * n + (u - 1);
     table[there] = 1;
     table[back] = 1;
-    Outcome::Next(Said {
-        passed: true,
-        vertices: n,
-        stated: s.stated,
-        edges: s.edges + 1,
+    s.edges += 1;
+    Ok(())
+}
+
+// N and M of a p line in form, which "starts with the six bytes `p edge`"; a space and the two numbers follow them.
+fn problem_numbers(line: &[u8]) -> Option<(usize, usize)>
+    requires { StartsWith (112 ∷ 32 ∷ []) line.now }
+    ensures { ProblemRead line.now result }
+{
+    let fields = line.strip_prefix(b"p edge")?.strip_prefix(b" ")?;
+    number::two_numbers(fields)
+}
+
+// A p line, which starts with p and a space: 34 a second p line; 32 another fault of form; then its numbers.
+fn problem_line(line: &[u8], table: &mut [u8], said: &mut Option<Said>) -> Result<(), Refusal>
+    requires starts { StartsWith (112 ∷ 32 ∷ []) line.now }
+    requires reading_fits { ReadingFits said.old (length table.old) }
+    ensures { LineRead (line_step (length table.old) (reading_of said.old table.old) line.now) said.old table.old said.new table.new result }
+{
+    if said.is_some() {
+        return Err(Refusal::SecondProblemLine);
+    }
+    let (n, m) = problem_numbers(line).ok_or(Refusal::Form)?;
+    *said = Some(problem(table, n, m)?);
+    Ok(())
+}
+
+// An e line, by what follows its e and its space: 33 no p line before it; 32 another fault of form; then its numbers.
+fn edge_line(fields: &[u8], table: &mut [u8], said: &mut Option<Said>) -> Result<(), Refusal>
+    requires reading_fits { ReadingFits said.old (length table.old) }
+    requires edges_bound { edges_of said.old + 1 < 2 ^ 64 }
+    ensures { LineRead (line_step (length table.old) (reading_of said.old table.old) (101 ∷ 32 ∷ fields.now)) said.old table.old said.new table.new result }
+{
+    let Some(s) = said else {
+        return Err(Refusal::NoProblemLine);
+    };
+    let (u, v) = number::two_numbers(fields).ok_or(Refusal::Form)?;
+    edge(table, s, u, v)
+}
+
+// One line, by its first letter, which a space follows: 31 for any other line but `c` alone. "`c` alone, `c` with a space and any bytes" are comments.
+#[tactic(auto, using(crate::proofs::Steps::faulty, crate::proofs::Steps::unchanged, crate::proofs::Lines::line_other, crate::proofs::Lines::comment_alone, crate::proofs::Lines::comment_spaced))]
+fn read_line(line: &[u8], table: &mut [u8], said: &mut Option<Said>) -> Result<(), Refusal>
+    requires reading_fits { ReadingFits said.old (length table.old) }
+    requires edges_bound { edges_of said.old + 1 < 2 ^ 64 }
+    ensures { LineRead (line_step (length table.old) (reading_of said.old table.old) line.now) said.old table.old said.new table.new result }
+{
+    match line {
+        [b'c'] | [b'c', b' ', ..] => Ok(()),
+        [b'p', b' ', ..] => problem_line(line, table, said),
+        [b'e', b' ', fields @ ..] => edge_line(fields, table, said),
+        _ => Err(Refusal::FirstLetter),
+    }
+}
+
+// An e line in form, if one comes first: its end is met as its numbers are read, so that nothing is searched for. `None` says nothing of the line.
+fn first_edge(text: &[u8]) -> Option<EdgeLine>
+    ensures { IfSome result (EdgeFirst text.now) }
+{
+    let [b'e', b' ', fields @ ..] = text else {
+        return None;
+    };
+    let u = number::ended(fields, b' ')?;
+    let v = number::ended(&fields[u.count + 1..], b'\n')?;
+    Some(EdgeLine {
+        u: u.value,
+        v: v.value,
+        length: u.count + v.count + 3,
     })
 }
 
-// A line that starts with p: 31 no space after it; 34 a second p line; 32 another fault of form; then its numbers.
-fn problem_line(line: &[u8], table: &mut [u8], s: Said) -> Outcome
-    requires first_byte { FirstByte 112 line.now }
-    requires reading_fits { ReadingFits s (length table.old) }
-    ensures { LineRead (line_step (length table.old) (reading_of s table.old) line.now) s table.old table.new result }
-{
-    if unspaced(line) {
-        return Outcome::Bad(31);
-    }
-    let second = s.passed;
-    let other = !starts(line, b"p edge");
-    if second {
-        return Outcome::Bad(34);
-    }
-    if other {
-        return Outcome::Bad(32); // not the six bytes
-    }
-    if line.len() < 7 {
-        return Outcome::Bad(32);
-    }
-    if line[6] != b' ' {
-        return Outcome::Bad(32);
-    }
-    match number::two_numbers(&line[7..]) {
-        Pair::Numbers(n, m) => problem(table, n, m),
-        Pair::NoPair => Outcome::Bad(32),
-    }
-}
-
-// A line that starts with e: 31 no space after it; 33 no p line before it; 32 another fault of form; then its numbers.
-fn edge_line(line: &[u8], table: &mut [u8], s: Said) -> Outcome
-    requires first_byte { FirstByte 101 line.now }
-    requires reading_fits { ReadingFits s (length table.old) }
-    requires edges_bound { s.edges + 1 < 2 ^ 64 }
-    ensures { LineRead (line_step (length table.old) (reading_of s table.old) line.now) s table.old table.new result }
-{
-    if unspaced(line) {
-        return Outcome::Bad(31);
-    }
-    if !s.passed {
-        return Outcome::Bad(33);
-    }
-    match number::two_numbers(&line[2..]) {
-        Pair::Numbers(u, v) => edge(table, s, u, v),
-        Pair::NoPair => Outcome::Bad(32),
-    }
-}
-
-// One line: 31 empty, or another first letter; then by its first letter.
-fn read_line(line: &[u8], table: &mut [u8], s: Said) -> Outcome
-    requires reading_fits { ReadingFits s (length table.old) }
-    requires edges_bound { s.edges + 1 < 2 ^ 64 }
-    ensures { LineRead (line_step (length table.old) (reading_of s table.old) line.now) s table.old table.new result }
-{
-    if line.len() == 0 {
-        return Outcome::Bad(31);
-    }
-    let first = line[0];
-    match first {
-        b'c' => {
-            if comment(line) {
-                Outcome::Next(s)
-            } else {
-                Outcome::Bad(31)
-            }
-        }
-        b'p' => problem_line(line, table, s),
-        b'e' => edge_line(line, table, s),
-        _ => Outcome::Bad(31),
-    }
-}
-
-// An e line in form, if one comes first: its end is met as its numbers are read, so that nothing is searched for.
-fn first_edge(text: &[u8]) -> First
-    ensures { EdgeFirst text.now result }
-{
-    if !starts(text, b"e ") {
-        return First::Other;
-    }
-    let u = number::ended(&text[2..], b' ');
-    let u_digits = u.count;
-    if u_digits == 0 {
-        return First::Other;
-    }
-    let at = u_digits + 3;
-    let v = number::ended(&text[at..], b'\n');
-    let v_digits = v.count;
-    if v_digits == 0 {
-        return First::Other;
-    }
-    First::Edge(u.value, v.value, at + v_digits)
-}
-
 // Reads the first line of a text. Most lines are e lines in form, and only another one is searched for its end.
-pub fn read_first(text: &[u8], table: &mut [u8], s: Said) -> Passage
+pub fn read_first(text: &[u8], table: &mut [u8], said: &mut Option<Said>) -> Passage
     requires text_nonzero { 0 < length text.now }
-    requires reading_fits { ReadingFits s (length table.old) }
-    requires edges_bound { s.edges + 1 < 2 ^ 64 }
+    requires reading_fits { ReadingFits said.old (length table.old) }
+    requires edges_bound { edges_of said.old + 1 < 2 ^ 64 }
     ensures first_line { FirstLine text.now result.length }
-    ensures line_read { LineRead (line_step (length table.old) (reading_of s table.old) (take result.length text.now)) s table.old table.new result.outcome }
+    ensures line_read { LineRead (line_step (length table.old) (reading_of said.old table.old) (take result.length text.now))
+        said.old table.old said.new table.new result.outcome }
 {
-    match first_edge(text) {
-        First::Edge(u, v, length) => {
-            if !s.passed {
-                return Passage {
-                    outcome: Outcome::Bad(33),
-                    length,
-                };
-            }
-            let outcome = edge(table, s, u, v);
-            Passage { outcome, length }
-        }
-        First::Other => {
-            let length = number::scan::find(text, b'\n');
-            let outcome = read_line(&text[..length], table, s);
-            Passage { outcome, length }
-        }
-    }
+    let Some(EdgeLine { u, v, length }) = first_edge(text) else {
+        let length = number::scan::find(text, b'\n');
+        let outcome = read_line(&text[..length], table, said);
+        return Passage { outcome, length };
+    };
+    let outcome = match said {
+        Some(s) => edge(table, s, u, v),
+        None => Err(Refusal::NoProblemLine),
+    };
+    Passage { outcome, length }
 }

@@ -1,21 +1,20 @@
 -- Page by page: the replies so far, one more, and why this ends. Assumes nothing.
 use Prim.Native.Nat.{ℕ, zero, suc, ◌+◌, ◌*◌, ◌≤◌, ◌<◌}
-use mathlib.Core.Path.{◌≡◌, refl, sym, ap, ap₂, ◌∙◌, subst, subst₂}
-use mathlib.Core.Bool.{Bool, true, false}
+use mathlib.Core.Path.{◌≡◌, refl, sym, ap, ap₂, ◌∙◌, subst}
+use mathlib.Core.Bool.{false}
 use mathlib.Core.Logic.{◌≢◌, inl, inr}
 use mathlib.Core.List.{List, [], ◌∷◌, ◌++◌, append_assoc}
 use native.Mathlib.Nat.{not-suc-le-zero}
 use native.Mathlib.Omega.{arith}
 use lib.ListN.{length, take, replicate}
-use borrow.Author.Tests.{eqb-true, eqb-false}
 use Rattle.model.specs.Groups.{Settings}
 use Rattle.model.specs.Walk.{Position, Rules, fresh, finished, page, full_sets, stopped_finished}
 use Rattle.model.specs.Listing.{rules, record_length}
-use Rattle.model.specs.Calls.{refuse_settings, refuse_page, PageReply, reply_to}
+use Rattle.model.specs.Calls.{refuse_page, PageReply, reply_to}
 use Rattle.model.specs.Demand.{left_at, all_steps, all_groups, SomeFinished, Demand3, PageBounds}
 use Rattle.model.specs.Program.{group_lines, held, end_line, Verdict, listing, program_verdict, PrintsAt, Prints}
 use Rattle.theory.specs.Replies.{Replied, Chain}
-use Rattle.theory.specs.Printed.{printed, printed_pages, Begins}
+use Rattle.theory.specs.Printed.{printed_pages, Begins}
 use Rattle.theory.proofs.Basics.Tests.{fails}
 use Rattle.theory.proofs.Walk.Remaining.{Fit, fresh-fit}
 use Rattle.theory.proofs.Walk.Lawful.{lawful}
@@ -25,14 +24,14 @@ use Rattle.theory.proofs.Calls.Pages.{replied, page_does, went_finished, chain_d
 use Rattle.theory.proofs.Calls.Next.{demand_accepted}
 use Rattle.theory.proofs.Program.Printed.{held-add}
 use Rattle.theory.proofs.Program.Program.{all_groups_lem, pages_begin, pages-listed, pages_print}
-use Rattle.graph.specs.Table.{lent_table, lent, graph_of}
-use Rattle.graph.proofs.Refusals.{lent-simple, lent_table_lem}
-use Rattle.print.proofs.Puts.{puts_first}
+use Rattle.graph.specs.Table.{lent_table, graph_of}
+use Rattle.graph.specs.declared.lent.Lent.{Lent}
+use Rattle.graph.proofs.Faults.{lent-simple, lent_table_lem}
+use Rattle.std.specs.Prelude.{Result, Ok, Err}
 use Rattle.rounds.specs.declared.PageAnswer.{PageAnswer}
 use Rattle.rounds.specs.Answer.{PageReplies}
-use Rattle.listing.specs.declared.PageDone.{PageDone}
-use Rattle.listing.specs.declared.totals.Listed.{Listed}
-use Rattle.listing.specs.List.{turn_call, turn_reply, Turned, Paged, Ran}
+use Rattle.listing.specs.declared.totals.Totals.{Totals}
+use Rattle.listing.specs.List.{lent_of, turn_call, turn_reply, Turned, ListBegins, Paged, Ran}
 
 -- ---- one page
 
@@ -84,46 +83,57 @@ held_more a b e f = ap (λ (x : ℕ). held (x + b)) e ∙ held-add a b ∙ ap (�
 -- ---- the pages of one graph
 
 -- before the first page
-pub paged_none : {n : ℕ} {t : List ℕ} {s : Settings} {p : Position} → p ≡ fresh n → Paged n t s p 0 0
+pub paged_none : {n : ℕ} {t : List ℕ} {s : Settings} {p : Position} → p ≡ fresh n → Paged n t s p (record { groups = 0; steps = 0 })
 unfolding left_at all_groups all_steps
-paged_none e = record { replies = []; chain = tt; left = sym e; all_groups_lem = refl; all_steps_lem = refl }
+paged_none e = record { replies = []; chain = tt; left = sym e; totals = record { all_groups_lem = refl; all_steps_lem = refl } }
 
--- what the pages so far come to, with a flag that says whole only where one of them has said Finished
-paged_ran : {n : ℕ} {t : List ℕ} {s : Settings} → (lent_table n t).fault ≡ 0 → {p : Position} {g k : ℕ} (paged : Paged n t s p g k) (w : Bool)
-    → (w ≡ true → SomeFinished paged.replies) → Ran n t s (record { groups = g; steps = k; whole = w })
-paged_ran {n} {t} {s} valid paged w f =
+-- what the pages so far come to where the list is cut there
+paged_cut : {n : ℕ} {t : List ℕ} {s : Settings} → (lent_table n t).fault ≡ 0 → {p : Position} {l : Totals} → Paged n t s p l → Ran n t s (Err l)
+paged_cut {n} {t} {s} valid paged =
+    let rs = paged.replies in
+    record { replies = rs; chain = paged.chain; totals = paged.totals; begins = pages_begin s n t valid rs paged.chain; whole-list = tt }
+
+-- and where one of them has said Finished
+paged_whole : {n : ℕ} {t : List ℕ} {s : Settings} → (lent_table n t).fault ≡ 0 → {p : Position} {l : Totals} (paged : Paged n t s p l)
+    → SomeFinished paged.replies → Ran n t s (Ok l)
+paged_whole {n} {t} {s} valid paged f =
     let rs = paged.replies in
     let c = paged.chain in
     record {
       replies = rs;
       chain = c;
-      all_groups_lem = paged.all_groups_lem;
-      all_steps_lem = paged.all_steps_lem;
+      totals = paged.totals;
       begins = pages_begin s n t valid rs c;
-      whole-list = λ e.
+      whole-list =
           record {
-            ended = f e;
-            pages = pages-listed s n t valid rs c (f e);
-            full-groups = paged.all_groups_lem ∙ ap (λ (a : ℕ). held a) (all_groups_lem s n t valid rs c (f e));
+            ended = f;
+            pages = pages-listed s n t valid rs c f;
+            full-groups = paged.totals.all_groups_lem ∙ ap (λ (a : ℕ). held a) (all_groups_lem s n t valid rs c f);
             full-steps = (
               all_steps rs,
-              ((chain_demand (rules (graph_of n t) s) n (lawful (graph_of n t) (lent-simple n t valid).loopless s) rs c).whole (f e)).1,
-              paged.all_steps_lem,
+              ((chain_demand (rules (graph_of n t) s) n (lawful (graph_of n t) (lent-simple n t valid).loopless s) rs c).whole f).1,
+              paged.totals.all_steps_lem,
             );
           };
     }
 
-module _ {n : ℕ} {t : List ℕ} (d : List ℕ) {s : Settings} (valid : (lent n t d).fault ≡ 0) (proper : refuse_settings s ≡ 0) {p : Position} {g k : ℕ}
-    (paged : Paged n t s p g k) (out : List ℕ) (work : ℕ) (room : 8 * n ≤ work) where
-  -- so the table by itself has no fault
+module _ {g : Lent} {s : Settings} {p₀ out₀ work₀ bytes₀ : List ℕ} (begins : ListBegins g s p₀ out₀ work₀ bytes₀) {p : Position} {l : Totals}
+    (paged : Paged g.table.n g.table.bytes.now s p l) (out : List ℕ) (work : ℕ) (room : 8 * g.table.n ≤ work) where
+  abbrev n : ℕ
+  n = g.table.n
+
+  abbrev t : List ℕ
+  t = g.table.bytes.now
+
+  -- the table by itself has no fault
   sound : (lent_table n t).fault ≡ 0
-  sound = lent_table_lem n t d valid
+  sound = lent_table_lem n t g.degrees.now begins.no_fault
 
   abbrev R : Rules
   R = rules (graph_of n t) s
 
   abbrev reply : PageReply
-  reply = turn_reply n t d s p out work
+  reply = turn_reply g s p out work
 
   law : Lawful R n
   law = lawful (graph_of n t) (lent-simple n t sound).loopless s
@@ -134,33 +144,36 @@ module _ {n : ℕ} {t : List ℕ} (d : List ℕ) {s : Settings} (valid : (lent n
   -- the next page is accepted
   accepted : reply.refused ≡ 0
   accepted =
-      subst (λ (q : Position). (turn_reply n t d s q out work).refused ≡ 0) paged.left
-      (demand_accepted (turn_call n t d s out work) (record { no_fault = valid; simple = lent-simple n t sound; proper = proper; enough = room }) paged.replies demand)
+      subst (λ (q : Position). (turn_reply g s q out work).refused ≡ 0) paged.left
+      (demand_accepted (turn_call g s out work) (record { no_fault = begins.no_fault; simple = lent-simple n t sound; proper = begins.settings; enough = room }) paged.replies demand)
 
   answered : Replied R p reply
   unfolding reply_to
-  answered = replied R (refuse_page (lent n t d) s p work) (page R 4294967295 (length out) p) p out (λ z. page_does R 4294967295 (length out) p)
+  answered = replied R (refuse_page (lent_of g) s p work) (page R 4294967295 (length out) p) p out (λ z. page_does R 4294967295 (length out) p)
 
-  paged_more : Paged n t s reply.position (held (g + reply.groups)) (held (k + reply.steps))
-  paged_more =
-      record {
-        replies = paged.replies ++ (reply ∷ []);
-        chain = chain_more R reply paged.replies (fresh n) paged.chain (subst (λ (q : Position). Replied R q reply) (sym paged.left) answered);
-        left = left-more paged.replies reply (fresh n);
-        all_groups_lem = held_more (all_groups paged.replies) reply.groups paged.all_groups_lem (groups-more paged.replies reply);
-        all_steps_lem = held_more (all_steps paged.replies) reply.steps paged.all_steps_lem (steps-more paged.replies reply);
-      }
+  module _ {m : Totals} (gs : m.groups ≡ held (l.groups + reply.groups)) (ks : m.steps ≡ held (l.steps + reply.steps)) where
+    paged_more : Paged n t s reply.position m
+    paged_more =
+        record {
+          replies = paged.replies ++ (reply ∷ []);
+          chain = chain_more R reply paged.replies (fresh n) paged.chain (subst (λ (q : Position). Replied R q reply) (sym paged.left) answered);
+          left = left-more paged.replies reply (fresh n);
+          totals = record {
+            all_groups_lem = gs ∙ held_more (all_groups paged.replies) reply.groups paged.totals.all_groups_lem (groups-more paged.replies reply);
+            all_steps_lem = ks ∙ held_more (all_steps paged.replies) reply.steps paged.totals.all_steps_lem (steps-more paged.replies reply);
+          };
+        }
 
-  -- where it says Finished, the pages so far have ended the walk
-  paged_ended : reply.stop ≡ stopped_finished → SomeFinished paged_more.replies
-  unfolding paged_more
-  paged_ended e = ended-more paged.replies reply accepted e
+    -- where it says Finished, the pages so far have ended the walk
+    paged_ended : reply.stop ≡ stopped_finished → SomeFinished paged_more.replies
+    unfolding paged_more
+    paged_ended e = ended-more paged.replies reply accepted e
 
   -- where it does not say Finished, the walk was not finished, and so it makes a step
   paged_falls : reply.stop ≢ stopped_finished → record_length n ≤ length out → weight n reply.position < weight n p
-  paged_falls go_on l =
+  paged_falls go_on wide =
       subst (λ (q : Position). weight n q < weight n p) answered.0.to
-      (stretch_falls R n law reply.steps p fit (call_progress (turn_call n t d s out work) p accepted unfinished (omega arith) l) answered.0.walking)
+      (stretch_falls R n law reply.steps p fit (call_progress (turn_call g s out work) p accepted unfinished (omega arith) wide) answered.0.walking)
     where
       unfinished : finished p ≡ false
       unfinished = fails (finished p) (λ f. go_on ((answered.1 accepted).1 (went_finished R p _ _ _ _ answered.0 f)))
@@ -170,33 +183,32 @@ module _ {n : ℕ} {t : List ℕ} (d : List ℕ) {s : Settings} (valid : (lent n
           subst (λ (q : Position). Fit n q) (sym demand.reached ∙ paged.left)
           (after_valid R n law (all_steps paged.replies) (fresh n) (fresh-fit n))
 
-  -- ---- the same by what a turn leaves
+-- ---- the same by what a turn leaves
 
-  module _ {before left out' after : List ℕ} {r : PageDone} (turned : Turned n t d s p out work before left out' after r) where
-    -- what stands in the buffer is what is printed of the used entries
-    pub turned_printed : take r.printed after ≡ printed (take r.used out')
-    turned_printed =
-        puts_first turned.puts
-        ∙ sym (ap₂ (λ (k : ℕ) (l : List ℕ). printed (take k l)) turned.used turned.output)
+module _ {g : Lent} {s : Settings} {p₀ out₀ work₀ bytes₀ : List ℕ} (begins : ListBegins g s p₀ out₀ work₀ bytes₀) {p : Position} {l : Totals}
+    (paged : Paged g.table.n g.table.bytes.now s p l) {out : List ℕ} {work : ℕ} (same : work ≡ length work₀) {before left out' after : List ℕ}
+    {page : PageAnswer} {end : ℕ} (turned : Turned g s p out work before left out' after page end) where
+  roomy : 8 * g.table.n ≤ work
+  roomy = rw same begins.room
 
-    module _ {g' k' : ℕ} (gs : g' ≡ held (g + r.groups)) (ks : k' ≡ held (k + r.steps)) where
-      same-groups : held (g + reply.groups) ≡ g'
-      same-groups = ap (λ (x : ℕ). held (g + x)) (sym turned.groups) ∙ sym gs
+  module _ {m : Totals} (gs : m.groups ≡ held (l.groups + page.groups)) (ks : m.steps ≡ held (l.steps + page.steps)) where
+    more : Paged g.table.n g.table.bytes.now s (turn_reply g s p out work).position m
+    more = paged_more begins paged out work roomy (rw turned.replies.groups at gs) (rw turned.replies.steps at ks)
 
-      same-steps : held (k + reply.steps) ≡ k'
-      same-steps = ap (λ (x : ℕ). held (k + x)) (sym turned.steps) ∙ sym ks
+    pub turned_paged : Paged g.table.n g.table.bytes.now s left m
+    turned_paged = rw turned.replies.position more
 
-      pub turned_paged : Paged n t s left g' k'
-      turned_paged =
-          subst (λ (q : Position). Paged n t s q g' k') (sym turned.position) (subst₂ (λ (x y : ℕ). Paged n t s reply.position x y) same-groups same-steps paged_more)
+    pub turned_cut : Ran g.table.n g.table.bytes.now s (Err m)
+    turned_cut = paged_cut (sound begins paged out work roomy) more
 
-      pub turned_ran : (w : Bool) → (w ≡ true → r.finished ≡ true) → Ran n t s (record { groups = g'; steps = k'; whole = w })
-      turned_ran w f =
-          subst₂ (λ (x y : ℕ). Ran n t s (record { groups = x; steps = y; whole = w })) same-groups same-steps
-          (paged_ran sound paged_more w (λ e. paged_ended (eqb-true _ 1 (sym turned.finished ∙ f e))))
+    pub turned_whole : page.stop ≡ stopped_finished → Ran g.table.n g.table.bytes.now s (Ok m)
+    unfolding more
+    turned_whole e = paged_whole (sound begins paged out work roomy) more (paged_ended begins paged out work roomy _ _ (sym turned.replies.stop ∙ e))
 
-    pub turned_falls : r.finished ≡ false → record_length n ≤ length out → weight n left < weight n p
-    turned_falls e l = subst (λ (q : Position). weight n q < weight n p) (sym turned.position) (paged_falls (eqb-false _ 1 (sym turned.finished ∙ e)) l)
+  pub turned_falls : length out ≡ length out₀ → page.stop ≢ stopped_finished → weight g.table.n left < weight g.table.n p
+  turned_falls same_out e =
+      rw turned.replies.position
+      (paged_falls begins paged out work roomy (λ z. e (turned.replies.stop ∙ z)) (rw same_out begins.output))
 
 lines_begin : (s : Settings) (n : ℕ) (t : List ℕ) (xs out : List ℕ) → Begins xs (group_lines (graph_of n t) (full_sets (rules (graph_of n t) s) n))
     → PrintsAt (listing s n t) out → Begins xs out
@@ -210,13 +222,13 @@ lines_begin s n t xs out b p = (
 
 -- What the listing hands to the writes is the beginning of what the program prints.
 pub ran_begins : (words : List (List ℕ)) (text : List ℕ) (s : Settings) (n : ℕ) (t : List ℕ) → program_verdict words text ≡ listing s n t
-    → {r : Listed} (ran : Ran n t s r) (out : List ℕ) → Prints words text out → Begins (printed_pages ran.replies) out
+    → {r : Result Totals Totals} (ran : Ran n t s r) (out : List ℕ) → Prints words text out → Begins (printed_pages ran.replies) out
 ran_begins words text s n t e ran out p =
     lines_begin s n t (printed_pages ran.replies) out ran.begins (subst (λ (x : Verdict). PrintsAt x out) e p)
 
 -- Where the list is whole, it and its end line are what the program prints.
 pub ran_prints : (words : List (List ℕ)) (text : List ℕ) (s : Settings) (n : ℕ) (t : List ℕ) → program_verdict words text ≡ listing s n t
-    → {r : Listed} (ran : Ran n t s r) → r.whole ≡ true → Prints words text (printed_pages ran.replies ++ end_line r.groups r.steps)
-ran_prints words text s n t e {r} ran w =
-    subst (λ (l : List ℕ). Prints words text (printed_pages ran.replies ++ l)) (ap₂ end_line (sym ran.all_groups_lem) (sym ran.all_steps_lem))
-    (pages_print words text s n t e ran.replies ran.chain (ran.whole-list w).ended)
+    → {l : Totals} (ran : Ran n t s (Ok l)) → Prints words text (printed_pages ran.replies ++ end_line l.groups l.steps)
+ran_prints words text s n t e {l} ran =
+    subst (λ (x : List ℕ). Prints words text (printed_pages ran.replies ++ x)) (ap₂ end_line (sym ran.totals.all_groups_lem) (sym ran.totals.all_steps_lem))
+    (pages_print words text s n t e ran.replies ran.chain ran.whole-list.ended)

@@ -1,44 +1,46 @@
 -- What the listing of a graph promises: the totals of replies to page calls, from the fresh position on, and whether one of them has said Finished.
 -- Assumes nothing.
-use Rattle.std.specs.Prelude.{ℕ, ◌*◌, ◌≤◌, ◌≡◌, true, List, length, take, eqb}
+use Rattle.std.specs.Prelude.{ℕ, ◌*◌, ◌≤◌, ◌≡◌, true, List, length, take, Result, IfOk, MatchResult}
 use Rattle.model.specs.Groups.{Settings}
-use Rattle.model.specs.Walk.{Position, fresh, lasts, full_sets, stopped_finished}
+use Rattle.model.specs.Walk.{Position, fresh, lasts, full_sets}
 use Rattle.model.specs.Listing.{rules, record_length}
 use Rattle.model.specs.Calls.{Call, refuse_settings, PageReply, reply_to}
 use Rattle.model.specs.Demand.{left_at, all_steps, all_groups, SomeFinished}
 use Rattle.model.specs.Program.{group_lines, held}
 use Rattle.theory.specs.Replies.{Chain}
 use Rattle.theory.specs.Printed.{printed, printed_pages, Begins}
+use Rattle.model.specs.Graph.{LentGraph}
 use Rattle.graph.specs.Table.{lent_table, lent, graph_of}
-use Rattle.listing.specs.declared.PageDone.{PageDone}
-use Rattle.listing.specs.declared.totals.Listed.{Listed}
+use Rattle.graph.specs.declared.lent.Lent.{Lent}
+use Rattle.rounds.specs.declared.PageAnswer.{PageAnswer}
+use Rattle.rounds.specs.Answer.{PageReplies}
+use Rattle.listing.specs.declared.totals.Totals.{Totals}
 use Rattle.print.specs.Put.{Puts}
 
+-- what is lent, as a call has it
+abbrev pub lent_of : Lent → LentGraph
+lent_of g = lent g.table.n g.table.bytes.now g.degrees.now
+
 -- a page call with the largest budget
-abbrev pub turn_call : ℕ → List ℕ → List ℕ → Settings → List ℕ → ℕ → Call
-turn_call n t d s out work = record { lent = lent n t d; settings = s; budget = 4294967295; output = out; work = work }
+abbrev pub turn_call : Lent → Settings → List ℕ → ℕ → Call
+turn_call g s out work = record { lent = lent_of g; settings = s; budget = 4294967295; output = out; work = work }
 
 -- the reply to it
-abbrev pub turn_reply : ℕ → List ℕ → List ℕ → Settings → Position → List ℕ → ℕ → PageReply
-turn_reply n t d s p out work = reply_to (turn_call n t d s out work) p
+abbrev pub turn_reply : Lent → Settings → Position → List ℕ → ℕ → PageReply
+turn_reply g s p out work = reply_to (turn_call g s out work) p
 
--- a page from p leaves its position, its numbers and its output, and its used entries printed from the buffer's start on
-pub record Turned (n : ℕ) (t d : List ℕ) (s : Settings) (p out : List ℕ) (work : ℕ) (bytes left out' printed' : List ℕ) (r : PageDone) : Type 0 where
-  pub position : left ≡ (turn_reply n t d s p out work).position
-  pub finished : r.finished ≡ eqb (turn_reply n t d s p out work).stop stopped_finished
-  pub groups : r.groups ≡ (turn_reply n t d s p out work).groups
-  pub steps : r.steps ≡ (turn_reply n t d s p out work).steps
-  pub used : r.used ≡ (turn_reply n t d s p out work).used
-  pub output : out' ≡ (turn_reply n t d s p out work).output
-  pub puts : Puts bytes 0 (printed (take (turn_reply n t d s p out work).used (turn_reply n t d s p out work).output)) printed' r.printed
+-- a page from p leaves its position, its answer and its output, and what is printed of its used entries from the buffer's start on
+pub record Turned (g : Lent) (s : Settings) (p out : List ℕ) (work : ℕ) (bytes left out' printed' : List ℕ) (page : PageAnswer) (end : ℕ) : Type 0 where
+  pub replies : PageReplies page left out' (turn_reply g s p out work)
+  pub puts : Puts bytes 0 (printed (take page.used out')) printed' end
 
--- a graph's table and degree list and settings without fault, its fresh position, and room for any record, for the work and for what is printed
-pub record ListBegins (n : ℕ) (t d : List ℕ) (s : Settings) (p out work bytes : List ℕ) : Type 0 where
-  pub no_fault : (lent n t d).fault ≡ 0
+-- a graph and settings without fault, its fresh position, and room for any record, for the work and for what is printed
+pub record ListBegins (g : Lent) (s : Settings) (p out work bytes : List ℕ) : Type 0 where
+  pub no_fault : (lent_of g).fault ≡ 0
   pub settings : refuse_settings s ≡ 0
-  pub start : p ≡ fresh n
-  pub output : record_length n ≤ length out
-  pub room : 8 * n ≤ length work
+  pub start : p ≡ fresh g.table.n
+  pub output : record_length g.table.n ≤ length out
+  pub room : 8 * g.table.n ≤ length work
   pub buffer : 6 * length out ≤ length bytes
 
 -- a graph of at most 256 vertices whose table has no fault, with settings that have none
@@ -47,29 +49,32 @@ pub record Listable (n : ℕ) (t : List ℕ) (s : Settings) : Type 0 where
   pub no_fault : (lent_table n t).fault ≡ 0
   pub settings : refuse_settings s ≡ 0
 
+-- the totals are those of replies, held
+pub record TotalsOf (replies : List PageReply) (l : Totals) : Type 0 where
+  pub all_groups_lem : l.groups ≡ held (all_groups replies)
+  pub all_steps_lem : l.steps ≡ held (all_steps replies)
+
 -- replies to page calls, from fresh to the position p, with their totals held
-pub record Paged (n : ℕ) (t : List ℕ) (s : Settings) (p : Position) (groups steps : ℕ) : Type 0 where
+pub record Paged (n : ℕ) (t : List ℕ) (s : Settings) (p : Position) (l : Totals) : Type 0 where
   pub replies : List PageReply
   pub chain : Chain (rules (graph_of n t) s) (fresh n) replies
   pub left : left_at replies (fresh n) ≡ p
-  pub all_groups_lem : groups ≡ held (all_groups replies)
-  pub all_steps_lem : steps ≡ held (all_steps replies)
+  pub totals : TotalsOf replies l
 
 -- The whole list: one of the replies has said Finished, what is printed of them is a line for each group of the full list, and the totals are the
 -- number of groups of the full list and the walk's length, both held.
-pub record WholeList (n : ℕ) (t : List ℕ) (s : Settings) (replies : List PageReply) (groups steps : ℕ) : Type 0 where
+pub record WholeList (n : ℕ) (t : List ℕ) (s : Settings) (replies : List PageReply) (l : Totals) : Type 0 where
   pub ended : SomeFinished replies
   pub pages : printed_pages replies ≡ group_lines (graph_of n t) (full_sets (rules (graph_of n t) s) n)
-  pub full-groups : groups ≡ held (length (full_sets (rules (graph_of n t) s) n))
-  pub full-steps : (k : ℕ) × (lasts (rules (graph_of n t) s) k (fresh n) ≡ true) × (steps ≡ held k)
+  pub full-groups : l.groups ≡ held (length (full_sets (rules (graph_of n t) s) n))
+  pub full-steps : (k : ℕ) × (lasts (rules (graph_of n t) s) k (fresh n) ≡ true) × (l.steps ≡ held k)
 
 -- The replies to page calls, from fresh on: what is printed of them is the beginning of the list's lines, and where the list is said to be whole it is all
 -- of them. So a list is said to be whole only after a page has said Finished. That it is cut only at a write that failed, and then always, is in the code
 -- alone: no contract can speak of what a write does.
-pub record Ran (n : ℕ) (t : List ℕ) (s : Settings) (r : Listed) : Type 0 where
+pub record Ran (n : ℕ) (t : List ℕ) (s : Settings) (r : Result Totals Totals) : Type 0 where
   pub replies : List PageReply
   pub chain : Chain (rules (graph_of n t) s) (fresh n) replies
-  pub all_groups_lem : r.groups ≡ held (all_groups replies)
-  pub all_steps_lem : r.steps ≡ held (all_steps replies)
+  pub totals : MatchResult r (TotalsOf replies) (TotalsOf replies)
   pub begins : Begins (printed_pages replies) (group_lines (graph_of n t) (full_sets (rules (graph_of n t) s) n))
-  pub whole-list : r.whole ≡ true → WholeList n t s replies r.groups r.steps
+  pub whole-list : IfOk r (WholeList n t s replies)

@@ -3,105 +3,81 @@
 
 pub mod totals;
 
-ghost use Rattle.std.specs.Prelude.{◌≡◌, ◌*◌, ◌≤◌, length, take};
+ghost use Rattle.std.specs.Prelude.{◌≡◌, ◌*◌, ◌≤◌, length};
 ghost use Rattle.theory.specs.Printed.{printed};
 ghost use Rattle.isolation.specs.Numbers.{settings_of};
 ghost use Rattle.listing.specs.List.{Turned, ListBegins, Ran};
 
-use crate::totals::{Listed, held_add};
+use crate::totals::Totals;
+use graph::Lent;
 use isolation::Settings;
 use print::print_entries;
+use rounds::{PageAnswer, Stop};
+use std::io;
 
-// Writes the first k bytes of a buffer to standard output, and answers whether all of them were written. No contract can speak of what a write does;
-// what is handed to it is said by those who call this, in what they require.
-pub fn write_first(rt: &impl Print, bytes: &[u8], k: usize) -> bool
-    requires { k ≤ length bytes.now }
+// Writes the lines that are printed of a page's entries to standard output. No contract can speak of what a write does: what is handed to it is required.
+fn write_page(rt: &impl Print, lines: &[u8], entries: &[u16]) -> io::Result<()>
+    requires { lines.now ≡ printed entries.now }
 {
-    rt.write_all(&bytes[..k]).is_ok()
+    rt.write_all(lines)
 }
 
-// Writes what is printed of a page's used output entries, the first k bytes of a buffer, and answers whether all of it was written.
-fn write_page(rt: &impl Print, bytes: &[u8], k: usize, output: &[u16], used: usize) -> bool
-    requires k_in_bounds { k ≤ length bytes.now }
-    requires bytes_value { take k bytes.now ≡ printed (take used output.now) }
-{
-    write_first(rt, bytes, k)
-}
-
-// What a page brought: whether it said Finished, its groups and steps, its used output entries, and how many bytes are printed of them.
-#[derive(Drop)]
-pub struct PageDone {
-    pub finished: bool,
-    pub groups: u32,
-    pub steps: u32,
-    pub used: usize,
-    pub printed: usize,
-}
-
-// One page with the largest budget, printed into the buffer.
+// One page with the largest budget, its used entries printed into the buffer: the page's answer, and how many bytes are printed.
 fn one_page(
-    table: &[u8],
-    degrees: &[u16],
+    lent: &Lent,
+    settings: Settings,
     position: &mut [u8],
     output: &mut [u16],
     work: &mut [u16],
     bytes: &mut [u8],
-    n: usize,
-    s: Settings,
-) -> PageDone
+) -> (PageAnswer, usize)
     requires { 6 * length output.old ≤ length bytes.old }
-    ensures { Turned n table.now degrees.now (settings_of s) position.old output.old (length work.old)
-        bytes.old position.new output.new bytes.new result }
+    ensures { Turned lent.now (settings_of settings) position.old output.old (length work.old)
+        bytes.old position.new output.new bytes.new result.0 result.1 }
 {
-    let a = page::page(
-        table, degrees, position, output, work, n, s.notion, s.kind, s.factor, 4294967295,
+    let page = page::page(
+        lent.table.bytes,
+        lent.degrees,
+        position,
+        output,
+        work,
+        lent.table.n,
+        settings.notion,
+        settings.kind,
+        settings.factor,
+        u32::MAX,
     );
-    let printed = print_entries(&output[..a.used], bytes);
-    PageDone {
-        finished: a.stop == 1,
-        groups: a.groups,
-        steps: a.steps,
-        used: a.used,
-        printed,
-    }
+    let end = print_entries(&output[..page.used], bytes);
+    (page, end)
 }
 
-// Lists all groups of a graph from the fresh position on, and answers the totals and whether the list is whole. At the first write that fails it
-// ends, and the list is cut. Each page makes a step, so this ends.
+// Lists all groups of a graph from the fresh position on, and answers the totals of the whole list. At the first write that fails it ends, and answers
+// the totals of the list that is cut there. Each page makes a step, so this ends.
 pub fn list_all(
     rt: &impl Print,
-    table: &[u8],
-    degrees: &[u16],
+    lent: &Lent,
+    settings: Settings,
     position: &mut [u8],
     output: &mut [u16],
     work: &mut [u16],
     bytes: &mut [u8],
-    n: usize,
-    s: Settings,
-) -> Listed
-    requires { ListBegins n table.now degrees.now (settings_of s) position.old output.old work.old bytes.old }
-    ensures { Ran n table.now (settings_of s) result }
+) -> Result<Totals, Totals>
+    requires { ListBegins lent.now (settings_of settings) position.old output.old work.old bytes.old }
+    ensures { Ran lent.now.table.n lent.now.table.bytes.now (settings_of settings) result }
 {
-    let mut groups: u32 = 0;
-    let mut steps: u32 = 0;
+    let mut totals = Totals {
+        groups: 0,
+        steps: 0,
+    };
     loop {
-        let t = one_page(table, degrees, position, output, work, bytes, n, s);
-        let written = write_page(rt, bytes, t.printed, output, t.used);
-        groups = held_add(groups, t.groups);
-        steps = held_add(steps, t.steps);
-        if !written {
-            return Listed {
-                groups,
-                steps,
-                whole: false,
-            };
+        let (page, end) = one_page(lent, settings, position, output, work, bytes);
+        let written = write_page(rt, &bytes[..end], &output[..page.used]);
+        totals.add(&page);
+        if written.is_err() {
+            return Err(totals);
         }
-        if t.finished {
-            return Listed {
-                groups,
-                steps,
-                whole: true,
-            };
+        if page.stop == u32::from(Stop::Finished) {
+            return Ok(totals);
         }
     }
 }

@@ -1,22 +1,23 @@
-// What a listing came to: its totals over all pages, and whether it is whole.
+// The totals of a listing.
 ghost use Rattle.std.specs.Prelude.{◌≡◌, ◌+◌};
 ghost use Rattle.model.specs.Program.{held};
 
-// The groups and the steps of all pages, and whether the list is whole: a page said Finished, and no write failed.
+use rounds::PageAnswer;
+
+// The groups and the steps of the pages so far: "Both totals stay at 4,294,967,295 once they would pass it."
 #[derive(Clone, Copy)]
-pub struct Listed {
+pub struct Totals {
     pub groups: u32,
     pub steps: u32,
-    pub whole: bool,
 }
 
-// A total with more added: "Both totals stay at 4,294,967,295 once they would pass it."
-pub fn held_add(total: u32, more: u32) -> u32
-    ensures { result ≡ held (total + more) }
-{
-    if 4294967295 - total < more {
-        4294967295
-    } else {
-        total + more
+impl Totals {
+    // Adds those of a page.
+    pub fn add(&mut self, page: &PageAnswer)
+        ensures groups { self.new.groups ≡ held (self.old.groups + page.now.groups) }
+        ensures steps { self.new.steps ≡ held (self.old.steps + page.now.steps) }
+    {
+        self.groups = self.groups.saturating_add(page.groups);
+        self.steps = self.steps.saturating_add(page.steps);
     }
 }

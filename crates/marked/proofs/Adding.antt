@@ -15,14 +15,12 @@ use Rattle.theory.proofs.Basics.Parts.{kept-none}
 use Rattle.marked.proofs.Parts.{kept_wider, kept_then}
 use Rattle.marked.proofs.Marks.{drop_at, dropped_most, return_undoes, count_most}
 use Rattle.marked.proofs.Steps.{marked_agree, with_here, with_hopeless, with_below}
-use Rattle.graph.specs.Degrees.{ReadsDegree}
-use Rattle.graph.specs.Table.{graph_of}
 use Rattle.isolation.specs.declared.Settings.{Settings}
 use Rattle.isolation.specs.declared.Tally.{Tally}
 use Rattle.isolation.specs.Numbers.{with_member, isolated_of}
 use Rattle.marked.specs.Numbers.{hopeless_of, find_of, with_of}
 use Rattle.marked.specs.Places.{candidates_in, marks_in, KeptButMarks, Dropped, Returned}
-use Rattle.marked.specs.Search.{SearchFits, Room, RoomWith, Restored, Searched, SearchedWith}
+use Rattle.marked.specs.Search.{Room, RoomWith, Restored, Searched, SearchedWith}
 
 -- what is left behind where the answer is yes, and where it is no and the slice is as it was
 pub restored-yes : {n m : ℕ} {w w₁ : List ℕ} → KeptButMarks n 0 m w w₁ → Restored n m w w₁ true
@@ -31,25 +29,31 @@ restored-yes k = record { kept = k; on_no = λ e. absurd (true≢false e) }
 pub restored_no : {n m : ℕ} {w w₁ : List ℕ} → w₁ ≡ w → Restored n m w w₁ false
 restored_no {n} {m} {w} e = record { kept = subst (KeptButMarks n 0 m w) (sym e) (kept-none _ _ w); on_no = λ f. e }
 
+-- the candidate v is to be added, in a graph of few vertices, with a slice that is long enough
+pub record Asked (G : Graph) (w : List ℕ) (s : Settings) (y : Tally) (low v i m left : ℕ) : Type 0 where
+  pub small : G.size ≤ 1024
+  pub parts : 5 * G.size ≤ length w
+  pub room : RoomWith G.size w s y low v i m left
+
 -- the candidate v is added
-module _ {n : ℕ} {t degrees w : List ℕ} {s : Settings} {y : Tally} {low v i m left : ℕ} (lent : SearchFits n t degrees w) (room : RoomWith n w s y low v i m left) where
+module _ {G : Graph} {w : List ℕ} {s : Settings} {y : Tally} {low v i m left : ℕ} (asked : Asked G w s y low v i m left) where
+  abbrev n : ℕ
+  n = G.size
+
+  abbrev room : RoomWith n w s y low v i m left
+  room = asked.room
+
   abbrev state : Room n w s y low i m left
   state = room.state
-
-  abbrev graph : Graph
-  graph = graph_of n t
 
   -- there are no more candidates still in than there are left
   pub left-few : left ≤ m - i
   left-few = let k = count_most (marks_in n w) i (m - i) in let e = state.still in omega arith
 
   -- v has degree d, and z has the numbers with it
-  module _ {d : ℕ} {z : Tally} (reads : ReadsDegree n degrees v d) (more : z ≡ with_member y d) where
-    degree-is : (d ≡ degree graph v) × (d ≤ n)
-    degree-is = reads.degree graph refl lent.degrees
-
-    with_degree_lem : z ≡ with_member y (degree graph v)
-    with_degree_lem = more ∙ ap (with_member y) degree-is.0
+  module _ {d : ℕ} {z : Tally} (reads : (d ≡ degree G v) × (d ≤ G.size)) (more : z ≡ with_member y d) where
+    with_degree_lem : z ≡ with_member y (degree G v)
+    with_degree_lem = more ∙ ap (with_member y) reads.0
 
     pub depth_is : z.members ≡ y.members + 1
     depth_is = ap (λ (x : Tally). x.members) more
@@ -60,12 +64,11 @@ module _ {n : ℕ} {t degrees w : List ℕ} {s : Settings} {y : Tally} {low v i 
         let a = ap (λ (x : Tally). x.sum) more in
         let p = depth_is in
         let b = state.sum in
-        let e = degree-is.1 in
-        let f = lent.table.small in
+        let e = reads.1 in
         omega arith
 
     -- found, where the set with v is isolated
-    pub with_found : true ≡ isolated_of s z → SearchedWith n t w w s y low v i m true
+    pub with_found : true ≡ isolated_of s z → SearchedWith G w w s y low v i m true
     with_found e =
         record {
           answer = sym (with_here _ _ _ _ _ _ _ _ _ _ _ _ _ (ap (isolated_of s) (sym with_degree_lem) ∙ sym e));
@@ -73,14 +76,14 @@ module _ {n : ℕ} {t degrees w : List ℕ} {s : Settings} {y : Tally} {low v i 
         }
 
     module _ (apart : isolated_of s z ≡ false) where
-      not_here : isolated_of s (with_member y (degree graph v)) ≡ false
+      not_here : isolated_of s (with_member y (degree G v)) ≡ false
       not_here = ap (isolated_of s) (sym with_degree_lem) ∙ apart
 
-      leaves_is : hopeless_of s (with_member y (degree graph v)) (count_in (marks_in n w) i (m - i)) low ≡ hopeless_of s z left low
+      leaves_is : hopeless_of s (with_member y (degree G v)) (count_in (marks_in n w) i (m - i)) low ≡ hopeless_of s z left low
       leaves_is = ap (λ (x : Tally). hopeless_of s x (count_in (marks_in n w) i (m - i)) low) (sym with_degree_lem) ∙ ap (λ (l : ℕ). hopeless_of s z l low) (sym state.still)
 
       -- given up, where no larger set is isolated
-      pub with_given_up : hopeless_of s z left low ≡ true → SearchedWith n t w w s y low v i m false
+      pub with_given_up : hopeless_of s z left low ≡ true → SearchedWith G w w s y low v i m false
       with_given_up e =
           record { answer = sym (with_hopeless _ _ _ _ _ _ _ _ _ _ _ _ _ not_here (leaves_is ∙ e)); restored = restored_no refl }
 
@@ -88,28 +91,25 @@ module _ {n : ℕ} {t degrees w : List ℕ} {s : Settings} {y : Tally} {low v i 
     pub record Below (w₁ : List ℕ) (kept : ℕ) : Type 0 where
       pub apart : isolated_of s z ≡ false
       pub hope : hopeless_of s z left low ≡ false
-      pub drops : Dropped n t w w₁ v z.members i m kept
+      pub drops : Dropped G w w₁ v z.members i m kept
 
     module _ {w₁ : List ℕ} {kept : ℕ} (below : Below w₁ kept) where
-      abbrev drops : Dropped n t w w₁ v z.members i m kept
+      abbrev drops : Dropped G w w₁ v z.members i m kept
       drops = below.drops
 
       same-candidates : (e : ℕ) → e < n → candidates_in n w₁ e ≡ candidates_in n w e
       same-candidates e h = drops.kept.below (3 * n + e) (omega arith)
 
       -- the state below v
-      pub lent_below : SearchFits n t degrees w₁
-      lent_below =
-          let parts = lent.parts in
-          let l = drops.kept.length-kept in
-          record { table = lent.table; degrees-fit = lent.degrees-fit; degrees = lent.degrees; parts = omega arith }
+      pub parts-below : 5 * n ≤ length w₁
+      parts-below = let l = drops.kept.length-kept in omega arith
 
       -- whether the candidate at place e is joined to v
       abbrev joins_at : ℕ → Bool
-      joins_at e = graph.joined v (candidates_in n w e)
+      joins_at e = G.joined v (candidates_in n w e)
 
       marks-below : (e : ℕ) → i ≤ e → e < m → marks_in n w₁ e ≡ dropped z.members (joins_at e) (marks_in n w e)
-      marks-below e h l = drops.marks e h l ∙ drop_at graph (candidates_in n w) v z.members (marks_in n w) e
+      marks-below e h l = drops.marks e h l ∙ drop_at G (candidates_in n w) v z.members (marks_in n w) e
 
       below_depth : (e : ℕ) → e < m → marks_in n w e < z.members
       below_depth e h = let f = state.depths e h in let p = depth_is in omega arith
@@ -140,17 +140,17 @@ module _ {n : ℕ} {t degrees w : List ℕ} {s : Settings} {y : Tally} {low v i 
           }
 
       -- found below v, and what is left behind then
-      module _ {w₂ : List ℕ} {r : Bool} (deep : Searched n t w₁ w₂ s z low i m r) where
-        answer-below : r ≡ with_of graph s low (candidates_in n w) (marks_in n w) y v i (m - i)
+      module _ {w₂ : List ℕ} {r : Bool} (deep : Searched G w₁ w₂ s z low i m r) where
+        answer-below : r ≡ with_of G s low (candidates_in n w) (marks_in n w) y v i (m - i)
         answer-below =
             deep.answer
-            ∙ marked_agree _ _ _ _ (candidates_in n w₁) (candidates_in n w) (marks_in n w₁) (drop_out graph (candidates_in n w) v (y.members + 1) (marks_in n w)) _ _ _ _ i (m - i)
+            ∙ marked_agree _ _ _ _ (candidates_in n w₁) (candidates_in n w) (marks_in n w₁) (drop_out G (candidates_in n w) v (y.members + 1) (marks_in n w)) _ _ _ _ i (m - i)
             (λ e h l. same-candidates e (let f = state.few in let o = state.order in omega arith))
-            (λ e h l. drops.marks e h (let o = state.order in omega arith) ∙ ap (λ (k : ℕ). drop_out graph (candidates_in n w) v k (marks_in n w) e) depth_is)
-            ∙ ap (λ (x : Tally). find_of graph s low (candidates_in n w) (drop_out graph (candidates_in n w) v (y.members + 1) (marks_in n w)) x i (m - i)) with_degree_lem
+            (λ e h l. drops.marks e h (let o = state.order in omega arith) ∙ ap (λ (k : ℕ). drop_out G (candidates_in n w) v k (marks_in n w) e) depth_is)
+            ∙ ap (λ (x : Tally). find_of G s low (candidates_in n w) (drop_out G (candidates_in n w) v (y.members + 1) (marks_in n w)) x i (m - i)) with_degree_lem
             ∙ sym (with_below _ _ _ _ _ _ _ _ _ _ _ _ _ (not_here below.apart) (leaves_is below.apart ∙ below.hope))
 
-        pub below-found : r ≡ true → SearchedWith n t w w₂ s y low v i m true
+        pub below-found : r ≡ true → SearchedWith G w w₂ s y low v i m true
         below-found e =
             record {
               answer = sym e ∙ answer-below;
@@ -162,7 +162,7 @@ module _ {n : ℕ} {t degrees w : List ℕ} {s : Settings} {y : Tally} {low v i 
           undone : w₂ ≡ w₁
           undone = deep.restored.on_no none
 
-          pub below_none : {w₃ : List ℕ} → Returned n w₂ w₃ z.members i m → SearchedWith n t w w₃ s y low v i m false
+          pub below_none : {w₃ : List ℕ} → Returned n w₂ w₃ z.members i m → SearchedWith G w w₃ s y low v i m false
           below_none {w₃} back = record { answer = sym none ∙ answer-below; restored = restored_no same }
             where
               length-same : length w₃ ≡ length w

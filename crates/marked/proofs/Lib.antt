@@ -4,12 +4,12 @@ pub mod Factor
 pub mod Parts
 pub mod Notions
 pub mod Marks
+pub mod Marking
+pub mod Way
+pub mod Adding
+pub mod Searching
+pub mod Maximal
 pub mod First
 pub mod Steps
 pub mod Cut
 pub mod Marked
-pub mod Way
-pub mod Marking
-pub mod Adding
-pub mod Searching
-pub mod Maximal

@@ -16,7 +16,7 @@ use Rattle.model.specs.Below.{bit}
 use Rattle.marked.specs.Marks.{Marks, still_in, DroppedAt, dropped, drop_out, returned, count_in}
 use Rattle.marked.proofs.Marks.{returned-other, returned_brings_back, count_same, count-last}
 use Rattle.marked.specs.Places.{candidates_in, marks_in, KeptButMarks, Dropped, Returned}
-use Rattle.graph.specs.Table.{graph_of}
+use Rattle.model.specs.Graph.{Graph}
 
 -- the candidates i to j - 1 have the marks that f gives, and nothing else was written
 pub record Marking (n : ℕ) (w₀ : List ℕ) (f : ℕ → ℕ) (i : ℕ) (w : List ℕ) (j : ℕ) : Type 0 where
@@ -36,9 +36,6 @@ module _ {n : ℕ} {w₀ : List ℕ} {f : ℕ → ℕ} {i : ℕ} {w : List ℕ} 
   -- and so are the candidates
   pub marking_candidate : (e : ℕ) → e < n → candidates_in n w e ≡ candidates_in n w₀ e
   marking_candidate e h = m.kept.below (3 * n + e) (omega arith)
-
-  pub marking_vertex : (e : ℕ) → e < n → candidates_in n w₀ e < n → candidates_in n w e < n
-  marking_vertex e h l = let k = marking_candidate e h in omega arith
 
   -- past the last place
   pub marking_end : {k : ℕ} → j ≡ k → Marking n w₀ f i w k
@@ -73,26 +70,26 @@ marking_returned {n} {w₀} {w} {depth} {i} {m} r none =
     at e h (inr (inr l)) = r.written e (omega arith) h
 
 -- the marks once v is added at the depth
-abbrev pub after_drop : ℕ → List ℕ → List ℕ → ℕ → ℕ → Marks
-after_drop n t w₀ v depth = drop_out (graph_of n t) (candidates_in n w₀) v depth (marks_in n w₀)
+abbrev pub after_drop : Graph → List ℕ → ℕ → ℕ → Marks
+after_drop G w₀ v depth = drop_out G (candidates_in G.size w₀) v depth (marks_in G.size w₀)
 
-module _ {n : ℕ} (t : List ℕ) {w₀ : List ℕ} (v depth : ℕ) {i : ℕ} {w : List ℕ} {j : ℕ} (d : Marking n w₀ (after_drop n t w₀ v depth) i w j) where
+module _ (G : Graph) {w₀ : List ℕ} (v depth : ℕ) {i : ℕ} {w : List ℕ} {j : ℕ} (d : Marking G.size w₀ (after_drop G w₀ v depth) i w j) where
   -- the mark of the candidate u at place j
-  pub drop_read : j < n → {u : ℕ} → u ≡ candidates_in n w j → {joined : Bool} → joined ≡ (graph_of n t).joined v u
-      → {x : ℕ} → x ≡ dropped depth joined (marks_in n w j) → x ≡ after_drop n t w₀ v depth j
+  pub drop_read : j < G.size → {u : ℕ} → u ≡ candidates_in G.size w j → {joined : Bool} → joined ≡ G.joined v u
+      → {x : ℕ} → x ≡ dropped depth joined (marks_in G.size w j) → x ≡ after_drop G w₀ v depth j
   unfolding drop_out
   drop_read h q e r =
       r
-      ∙ ap (λ (b : Bool). dropped depth b (marks_in n w j)) (e ∙ ap ((graph_of n t).joined v) (q ∙ marking_candidate d j h))
-      ∙ ap (dropped depth ((graph_of n t).joined v (candidates_in n w₀ j))) (marking_ahead d j (omega arith))
+      ∙ ap (λ (b : Bool). dropped depth b (marks_in G.size w j)) (e ∙ ap (G.joined v) (q ∙ marking_candidate d j h))
+      ∙ ap (dropped depth (G.joined v (candidates_in G.size w₀ j))) (marking_ahead d j (omega arith))
 
   -- past the last place the candidates that are still in are counted
-  pub marking_dropped : {left : ℕ} → left ≡ count_in (after_drop n t w₀ v depth) i (j - i) → {m : ℕ} → j ≡ m → Dropped n t w₀ w v depth i m left
+  pub marking_dropped : {left : ℕ} → left ≡ count_in (after_drop G w₀ v depth) i (j - i) → {m : ℕ} → j ≡ m → Dropped G w₀ w v depth i m left
   marking_dropped {left} c q =
-      subst (λ (k : ℕ). Dropped n t w₀ w v depth i k left) q
+      subst (λ (k : ℕ). Dropped G w₀ w v depth i k left) q
       record {
         marks = d.written;
-        left = c ∙ sym (count_same (marks_in n w) (after_drop n t w₀ v depth) i (j - i) (λ e h l. d.written e h (let k = d.from in omega arith)));
+        left = c ∙ sym (count_same (marks_in G.size w) (after_drop G w₀ v depth) i (j - i) (λ e h l. d.written e h (let k = d.from in omega arith)));
         kept = d.kept;
       }
 

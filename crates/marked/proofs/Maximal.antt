@@ -18,30 +18,27 @@ use Rattle.isolation.specs.declared.Tally.{Tally}
 use Rattle.isolation.specs.Numbers.{beaten_of}
 use Rattle.marked.specs.Numbers.{find_of}
 use Rattle.theory.specs.Parts.{part}
-use Rattle.marked.specs.Places.{candidates_in, marks_in, KeptButMarks, MarksFit, AllIn}
+use Rattle.marked.specs.Places.{candidates_in, marks_in, KeptButMarks, AllIn}
 use Rattle.larger.specs.Search.{Posed}
 use Rattle.larger.specs.Search as larger
 use Rattle.larger.proofs.Maximal.{beaten-kind, beaten-min, beaten_search, posed_room}
-use Rattle.marked.specs.Search.{SearchFits, ReadsLeast, Lowest, Start, FirstFound, Room, Searched, Tested}
-use Rattle.theory.proofs.Basics.Parts.{part_length, part_at, kept-none}
+use Rattle.marked.specs.Search.{Lowest, Start, FirstFound, Room, Searched, Tested}
+use Rattle.std.specs.Prelude.{EachIndex, slice_index}
+use Rattle.larger.proofs.Joined.{part-vertices}
+use Rattle.theory.proofs.Basics.Parts.{part_length, part_at, part-below, kept-none}
 use Rattle.marked.proofs.Parts.{kept_then}
-use Rattle.graph.specs.Table.{graph_of}
+use Rattle.model.specs.Graph.{Graph}
 
-module _ {n : ℕ} {t degrees w : List ℕ} {s : Settings} {y : Tally} {m : ℕ} (lent : SearchFits n t degrees w) (posed : Posed n t w s y m) where
+module _ {G : Graph} {w : List ℕ} {s : Settings} {y : Tally} {m : ℕ} (small : G.size ≤ 1024) (parts : 5 * G.size ≤ length w) (posed : Posed G w s y m) where
+  abbrev n : ℕ
+  n = G.size
+
   all-candidates : length (part w (3 * n) m) ≡ m
-  all-candidates = let l = lent.parts in let f = posed.room in part_length w (3 * n) m (omega arith)
+  all-candidates = let f = posed.room in part_length w (3 * n) m (omega arith)
 
   -- there is as much room as the search over the list asks for, since both begin with the same question
   room : larger.Room n w s y y.members 0 m
-  room =
-      posed_room
-      (record {
-        table = lent.table;
-        degrees-fit = lent.degrees-fit;
-        degrees = lent.degrees;
-        parts = let l = lent.parts in omega arith;
-      })
-      posed
+  room = posed_room small (omega arith) posed
 
   -- what the search starts from
   pub posed_start : Start n w s y m
@@ -55,52 +52,36 @@ module _ {n : ℕ} {t degrees w : List ℕ} {s : Settings} {y : Tally} {m : ℕ}
 
   module _ (kind : s.kind ≡ 0) (notion : s.notion ≢ 0) where
     -- the search over the list says what `beaten` asks for
-    listed : beaten_of (graph_of n t) s y (part w (3 * n) m) ≡ find_larger (graph_of n t) s.notion s.factor [] y.members y.sum y.least y.largest (part w (3 * n) m)
-    listed = beaten_search (graph_of n t) s y (part w (3 * n) m) kind notion
+    listed : beaten_of G s y (part w (3 * n) m) ≡ find_larger G s.notion s.factor [] y.members y.sum y.least y.largest (part w (3 * n) m)
+    listed = beaten_search G s y (part w (3 * n) m) kind notion
 
-    module _ {w₁ : List ℕ} {b : Bool} (first : FirstFound n t w w₁ s y m b) where
+    module _ {w₁ : List ℕ} {b : Bool} (first : FirstFound G w w₁ s y m b) where
       -- what the first way down finds is there
-      pub by_first : b ≡ true → Tested n t w w₁ s y m true
+      pub by_first : b ≡ true → Tested G w w₁ s y m true
       by_first e =
           record {
-            answer = sym (listed ∙ first_finds (graph_of n t) s.notion s.factor 0 [] _ _ _ _ (part w (3 * n) m) (sym first.answer ∙ e));
+            answer = sym (listed ∙ first_finds G s.notion s.factor 0 [] _ _ _ _ (part w (3 * n) m) (sym first.answer ∙ e));
             kept = first.kept;
           }
 
-      first_candidate : (e : ℕ) → e < m → candidates_in n w₁ e ≡ candidates_in n w e
-      first_candidate e h = first.kept.below (3 * n + e) (let f = room.few in omega arith)
-
-      first-length : length w₁ ≡ length w
-      first-length = first.kept.length-kept
-
       -- what comes after it reads the same candidates
-      pub reads_least : ReadsLeast n degrees w₁ m
-      reads_least =
-          record {
-            degrees-fit = lent.degrees-fit;
-            few = room.few;
-            parts = let l = lent.parts in let k = first-length in omega arith;
-            candidates = λ e h. let k = first_candidate e h in let l = room.candidates e h in omega arith;
-          }
+      same-part : part w₁ (3 * n) (3 * n + m - 3 * n) ≡ part w (3 * n) m
+      same-part =
+          ap (part w₁ (3 * n)) short
+          ∙ part-below (4 * n + 0) (4 * n + m) w w₁ first.kept (3 * n) m (let f = room.few in omega arith)
+        where
+          short : 3 * n + m - 3 * n ≡ m
+          short = omega arith
 
-      pub clears : MarksFit n w₁ 0 0 m
-      clears = record { few = room.few; order = omega arith; deep = omega arith; parts = let l = lent.parts in let k = first-length in omega arith }
+      pub reads_least : EachIndex (part w₁ (3 * n) (3 * n + m - 3 * n)) (λ i. slice_index (part w₁ (3 * n) (3 * n + m - 3 * n)) i < n)
+      reads_least = rw same-part (part-vertices n w (3 * n) m room.candidates)
 
-      module _ {low : ℕ} (lowest : Lowest n degrees w₁ m low) {w₂ : List ℕ} (all_in : AllIn n w₁ w₂ m) where
+      module _ {low : ℕ} (lowest : Lowest G (part w₁ (3 * n) (3 * n + m - 3 * n)) low) {w₂ : List ℕ} (all_in : AllIn n w₁ w₂ m) where
         kept_both : KeptButMarks n 0 m w w₂
         kept_both = kept_then first.kept all_in.kept
 
         same_candidate : (e : ℕ) → e < m → candidates_in n w₂ e ≡ candidates_in n w e
         same_candidate e h = kept_both.below (3 * n + e) (let f = room.few in omega arith)
-
-        pub lent_marked : SearchFits n t degrees w₂
-        lent_marked =
-            record {
-              table = lent.table;
-              degrees-fit = lent.degrees-fit;
-              degrees = lent.degrees;
-              parts = let l = lent.parts in let k = kept_both.length-kept in omega arith;
-            }
 
         pub room_marked : Room n w₂ s y low 0 m m
         room_marked =
@@ -120,13 +101,13 @@ module _ {n : ℕ} {t degrees w : List ℕ} {s : Settings} {y : Tally} {m : ℕ}
             whole = omega arith
 
         -- the search over marks says the same
-        pub by_search : {w₃ : List ℕ} {r : Bool} → Searched n t w₂ w₃ s y low 0 m r → Tested n t w w₃ s y m r
+        pub by_search : {w₃ : List ℕ} {r : Bool} → Searched G w₂ w₃ s y low 0 m r → Tested G w w₃ s y m r
         by_search found =
             record {
               answer =
                   found.answer
-                  ∙ ap (find_of (graph_of n t) s low (candidates_in n w₂) (marks_in n w₂) y 0) whole
-                  ∙ search_marked (graph_of n t) posed.loopless posed.symmetric s.notion s.factor low posed.set posed.clique (part w (3 * n) m)
+                  ∙ ap (find_of G s low (candidates_in n w₂) (marks_in n w₂) y 0) whole
+                  ∙ search_marked G posed.loopless posed.symmetric s.notion s.factor low posed.set posed.clique (part w (3 * n) m)
                   posed.candidates y.members y.sum y.least y.largest posed.tally (candidates_in n w₂) (marks_in n w₂) entries
                   (λ e h. all_in.marks e (inside e h)) low_bound
                   ∙ sym listed;
@@ -142,23 +123,18 @@ module _ {n : ℕ} {t degrees w : List ℕ} {s : Settings} {y : Tally} {m : ℕ}
             entries : (e : ℕ) → e < length (part w (3 * n) m) → candidates_in n w₂ e ≡ get_or (part w (3 * n) m) e 0
             entries e h = same_candidate e (inside e h) ∙ sym (part_at w (3 * n) m e (inside e h))
 
-            low_bound : (e : ℕ) → e < length (part w (3 * n) m) → low ≤ degree (graph_of n t) (candidates_in n w₂ e)
+            low_bound : (e : ℕ) → e < length (part w (3 * n) m) → low ≤ degree G (candidates_in n w₂ e)
             low_bound e h =
-                let i = inside e h in
-                let k = same_candidate e i in
-                let f = first_candidate e i in
-                let v = room.candidates e i in
-                let d = lent.degrees (candidates_in n w₁ e) (omega arith) in
-                let g = ap (degree (graph_of n t)) (k ∙ sym f) in
-                let l = lowest.least e i in
+                let l = (rw same-part at lowest).least e h in
+                let k = ap (degree G) (entries e h) in
                 omega arith
 
   -- a common neighbour decides
-  by_length : (r : Bool) → ltb 0 m ≡ r → beaten_of (graph_of n t) s y (part w (3 * n) m) ≡ ltb 0 (length (part w (3 * n) m)) → Tested n t w w s y m r
+  by_length : (r : Bool) → ltb 0 m ≡ r → beaten_of G s y (part w (3 * n) m) ≡ ltb 0 (length (part w (3 * n) m)) → Tested G w w s y m r
   by_length r e f = record { answer = sym e ∙ ap (ltb 0) (sym all-candidates) ∙ sym f; kept = kept-none _ _ w }
 
-  pub by_kind : s.kind ≢ 0 → {r : Bool} → ltb 0 m ≡ r → Tested n t w w s y m r
-  by_kind d e = by_length _ e (beaten-kind (graph_of n t) s y (part w (3 * n) m) d)
+  pub by_kind : s.kind ≢ 0 → {r : Bool} → ltb 0 m ≡ r → Tested G w w s y m r
+  by_kind d e = by_length _ e (beaten-kind G s y (part w (3 * n) m) d)
 
-  pub by_min : s.kind ≡ 0 → s.notion ≡ 0 → {r : Bool} → ltb 0 m ≡ r → Tested n t w w s y m r
-  by_min k e f = by_length _ f (beaten-min (graph_of n t) s y (part w (3 * n) m) k e)
+  pub by_min : s.kind ≡ 0 → s.notion ≡ 0 → {r : Bool} → ltb 0 m ≡ r → Tested G w w s y m r
+  by_min k e f = by_length _ f (beaten-min G s y (part w (3 * n) m) k e)

@@ -1,6 +1,7 @@
 -- The search for a larger isolated clique over marks, one candidate at a time.
 -- Assumes nothing.
-use Prim.Native.Nat.{ℕ, ◌+◌, ◌-◌, ◌≤◌, ◌<◌}
+use Prim.Native.Nat.{ℕ, ◌+◌, ◌-◌, ◌*◌, ◌≤◌, ◌<◌}
+use lib.ListN.{length}
 use mathlib.Core.Path.{◌≡◌, sym, ap, ◌∙◌, subst}
 use mathlib.Core.Bool.{Bool, true, false}
 use mathlib.Core.List.{List}
@@ -11,56 +12,57 @@ use Rattle.marked.specs.Marks.{still_in, count_in}
 use Rattle.theory.proofs.Basics.Tests.{fails}
 use Rattle.marked.proofs.Marks.{still_in_test, count_in_lem, count-out, count_most}
 use Rattle.marked.proofs.Steps.{marked_end, marked_out, marked_hopeless, marked_found, marked_next}
-use Rattle.graph.specs.Table.{graph_of}
 use Rattle.isolation.specs.declared.Settings.{Settings}
 use Rattle.isolation.specs.declared.Tally.{Tally}
 use Rattle.marked.specs.Numbers.{hopeless_of, find_of}
 use Rattle.marked.specs.Places.{candidates_in, marks_in}
-use Rattle.marked.specs.Search.{SearchFits, Room, RoomWith, Searched, SearchedWith}
+use Rattle.marked.specs.Search.{Room, RoomWith, Searched, SearchedWith}
 use Rattle.marked.proofs.Adding.{restored-yes, restored_no}
 
 -- before candidate j, with `still` of the candidates left still in: what the search says from i on it says from j on, and the slice is as it was
-pub record At (n : ℕ) (t degrees w₀ : List ℕ) (s : Settings) (y : Tally) (low i m left : ℕ) (w : List ℕ) (still j : ℕ) : Type 0 where
-  pub lent : SearchFits n t degrees w₀
-  pub room : Room n w₀ s y low i m left
+pub record At (G : Graph) (w₀ : List ℕ) (s : Settings) (y : Tally) (low i m left : ℕ) (w : List ℕ) (still j : ℕ) : Type 0 where
+  pub small : G.size ≤ 1024
+  pub parts : 5 * G.size ≤ length w₀
+  pub room : Room G.size w₀ s y low i m left
   pub from : i ≤ j
   pub upto : j ≤ m
   pub same-slice : w ≡ w₀
-  pub count : still ≡ count_in (marks_in n w₀) j (m - j)
-  pub same : find_of (graph_of n t) s low (candidates_in n w₀) (marks_in n w₀) y i (m - i) ≡ find_of (graph_of n t) s low (candidates_in n w₀) (marks_in n w₀) y j (m - j)
+  pub count : still ≡ count_in (marks_in G.size w₀) j (m - j)
+  pub same : find_of G s low (candidates_in G.size w₀) (marks_in G.size w₀) y i (m - i) ≡ find_of G s low (candidates_in G.size w₀) (marks_in G.size w₀) y j (m - j)
 
-module _ {n : ℕ} {t degrees w₀ : List ℕ} {s : Settings} {y : Tally} {low i m left : ℕ} {w : List ℕ} {still j : ℕ} (at : At n t degrees w₀ s y low i m left w still j) where
+module _ {G : Graph} {w₀ : List ℕ} {s : Settings} {y : Tally} {low i m left : ℕ} {w : List ℕ} {still j : ℕ} (at : At G w₀ s y low i m left w still j) where
+  abbrev n : ℕ
+  n = G.size
+
   abbrev room : Room n w₀ s y low i m left
   room = at.room
 
-  abbrev graph : Graph
-  graph = graph_of n t
-
   -- what the search says from place e on
   abbrev says : ℕ → Bool
-  says e = find_of graph s low (candidates_in n w₀) (marks_in n w₀) y e (m - e)
+  says e = find_of G s low (candidates_in n w₀) (marks_in n w₀) y e (m - e)
 
   -- there are no more still in than there are left
   pub still-few : still ≤ m - j
   still-few = let k = count_most (marks_in n w₀) j (m - j) in let c = at.count in omega arith
 
   -- nothing is found from j on
-  none : says j ≡ false → Searched n t w₀ w s y low i m false
+  none : says j ≡ false → Searched G w₀ w s y low i m false
   none e = record { answer = sym (at.same ∙ e); restored = restored_no at.same-slice }
 
   -- with no candidate left
-  pub at_end : m ≤ j → Searched n t w₀ w s y low i m false
+  pub at_end : m ≤ j → Searched G w₀ w s y low i m false
   at_end h = none (marked_end _ _ _ _ _ _ _ _ _ _ j m h)
 
-  module _ (inside : j < m) {mark : ℕ} (read : mark ≡ marks_in n w j) where
-    mark_is : mark ≡ marks_in n w₀ j
-    mark_is = read ∙ ap (λ (u : List ℕ). marks_in n u j) at.same-slice
+  module _ (inside : j < m) where
+    mark_is : marks_in n w j ≡ marks_in n w₀ j
+    mark_is = ap (λ (u : List ℕ). marks_in n u j) at.same-slice
 
     -- passed over, where it has dropped out
-    pub at_out : mark ≢ 0 → At n t degrees w₀ s y low i m left w still (j + 1)
+    pub at_out : marks_in n w j ≢ 0 → At G w₀ s y low i m left w still (j + 1)
     at_out out =
         record {
-          lent = at.lent;
+          small = at.small;
+          parts = at.parts;
           room = room;
           from = let l = at.from in omega arith;
           upto = omega arith;
@@ -72,7 +74,7 @@ module _ {n : ℕ} {t degrees w₀ : List ℕ} {s : Settings} {y : Tally} {low i
         dropped-out : still_in (marks_in n w₀) j ≡ false
         dropped-out = fails _ (λ e. out (mark_is ∙ (still_in_test (marks_in n w₀) j).0 e))
 
-    module _ (is_in : mark ≡ 0) where
+    module _ (is_in : marks_in n w j ≡ 0) where
       still_in_lem : still_in (marks_in n w₀) j ≡ true
       still_in_lem = (still_in_test (marks_in n w₀) j).1 (sym mark_is ∙ is_in)
 
@@ -87,18 +89,17 @@ module _ {n : ℕ} {t degrees w₀ : List ℕ} {s : Settings} {y : Tally} {low i
       leaves_is = ap (λ (l : ℕ). hopeless_of s y l low) (sym at.count)
 
       -- left, where nothing larger is isolated
-      pub at_hopeless : hopeless_of s y still low ≡ true → Searched n t w₀ w s y low i m false
+      pub at_hopeless : hopeless_of s y still low ≡ true → Searched G w₀ w s y low i m false
       at_hopeless e = none (marked_hopeless _ _ _ _ _ _ _ _ _ _ j m inside still_in_lem (leaves_is ∙ e))
 
-  -- candidate j is to be added, with its mark read, and read itself as v: it is there and still in, and a larger set may be isolated
-  pub record Tries (mark v : ℕ) : Type 0 where
+  -- candidate j, read as v, is to be added: it is there and still in, and a larger set may be isolated
+  pub record Tries (v : ℕ) : Type 0 where
     pub inside : j < m
-    pub read : mark ≡ marks_in n w j
-    pub is_in : mark ≡ 0
+    pub is_in : marks_in n w j ≡ 0
     pub hope : hopeless_of s y still low ≡ false
     pub reads : v ≡ candidates_in n w j
 
-  module _ {mark v : ℕ} (tries : Tries mark v) where
+  module _ {v : ℕ} (tries : Tries v) where
     abbrev inside : j < m
     inside = tries.inside
 
@@ -106,10 +107,10 @@ module _ {n : ℕ} {t degrees w₀ : List ℕ} {s : Settings} {y : Tally} {low i
     is_candidate = tries.reads ∙ ap (λ (u : List ℕ). candidates_in n u j) at.same-slice
 
     after_is : still - 1 ≡ count_in (marks_in n w₀) (j + 1) (m - (j + 1))
-    after_is = let c = count-after inside tries.read tries.is_in in omega arith
+    after_is = let c = count-after inside tries.is_in in omega arith
 
-    pub lent_with : SearchFits n t degrees w
-    lent_with = subst (SearchFits n t degrees) (sym at.same-slice) at.lent
+    pub parts_with : 5 * n ≤ length w
+    parts_with = rw at.same-slice at.parts
 
     pub room_with : RoomWith n w s y low v (j + 1) m (still - 1)
     room_with =
@@ -130,30 +131,31 @@ module _ {n : ℕ} {t degrees w₀ : List ℕ} {s : Settings} {y : Tally} {low i
           vertex = let k = is_candidate in let l = room.candidates j inside in omega arith;
         }
 
-    module _ {w₁ : List ℕ} {r : Bool} (tried : SearchedWith n t w w₁ s y low v (j + 1) m r) where
-      tried_here : SearchedWith n t w₀ w₁ s y low (candidates_in n w₀ j) (j + 1) m r
+    module _ {w₁ : List ℕ} {r : Bool} (tried : SearchedWith G w w₁ s y low v (j + 1) m r) where
+      tried_here : SearchedWith G w₀ w₁ s y low (candidates_in n w₀ j) (j + 1) m r
       tried_here =
-          subst (λ (u : List ℕ). SearchedWith n t u w₁ s y low (candidates_in n w₀ j) (j + 1) m r) at.same-slice
-          (subst (λ (u : ℕ). SearchedWith n t w w₁ s y low u (j + 1) m r) is_candidate tried)
+          subst (λ (u : List ℕ). SearchedWith G u w₁ s y low (candidates_in n w₀ j) (j + 1) m r) at.same-slice
+          (subst (λ (u : ℕ). SearchedWith G w w₁ s y low u (j + 1) m r) is_candidate tried)
 
       hopeful : hopeless_of s y (count_in (marks_in n w₀) j (m - j)) low ≡ false
-      hopeful = leaves_is inside tries.read tries.is_in ∙ tries.hope
+      hopeful = leaves_is inside tries.is_in ∙ tries.hope
 
       -- found with it
-      pub at_found : r ≡ true → Searched n t w₀ w₁ s y low i m true
+      pub at_found : r ≡ true → Searched G w₀ w₁ s y low i m true
       at_found e =
           record {
             answer =
                 sym (at.same
-                ∙ marked_found _ _ _ _ _ _ _ _ _ _ j m inside (still_in_lem inside tries.read tries.is_in) hopeful (sym tried_here.answer ∙ e));
+                ∙ marked_found _ _ _ _ _ _ _ _ _ _ j m inside (still_in_lem inside tries.is_in) hopeful (sym tried_here.answer ∙ e));
             restored = restored-yes tried_here.restored.kept;
           }
 
       -- passed over, where nothing is found with it
-      pub at_next : r ≡ false → At n t degrees w₀ s y low i m left w₁ (still - 1) (j + 1)
+      pub at_next : r ≡ false → At G w₀ s y low i m left w₁ (still - 1) (j + 1)
       at_next e =
           record {
-            lent = at.lent;
+            small = at.small;
+            parts = at.parts;
             room = room;
             from = let l = at.from in omega arith;
             upto = omega arith;
@@ -161,5 +163,5 @@ module _ {n : ℕ} {t degrees w₀ : List ℕ} {s : Settings} {y : Tally} {low i
             count = after_is;
             same =
                 at.same
-                ∙ marked_next _ _ _ _ _ _ _ _ _ _ j m inside (still_in_lem inside tries.read tries.is_in) hopeful (sym tried_here.answer ∙ e);
+                ∙ marked_next _ _ _ _ _ _ _ _ _ _ j m inside (still_in_lem inside tries.is_in) hopeful (sym tried_here.answer ∙ e);
           }

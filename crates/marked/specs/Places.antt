@@ -3,7 +3,7 @@
 use Rattle.std.specs.Prelude.{ℕ, ◌+◌, ◌-◌, ◌*◌, ◌≤◌, ◌<◌, ◌≡◌, List, length, get_or}
 use Rattle.theory.specs.Parts.{candidates_at, HoldsVertices, Kept}
 use Rattle.marked.specs.Marks.{Marks, StillIn, DroppedAt, drop_out, BringsBack, count_in}
-use Rattle.graph.specs.Table.{TableFits, graph_of}
+use Rattle.model.specs.Graph.{Graph}
 
 -- part 4 of the work slice: the marks of the candidates, and before these are set the vertices that the first way down adds
 abbrev pub marks_at : ℕ → ℕ
@@ -28,18 +28,17 @@ pub record MarksFit (n : ℕ) (w : List ℕ) (depth i m : ℕ) : Type 0 where
   pub deep : depth ≤ 1024
   pub parts : 5 * n ≤ length w
 
--- the member v is added: the table has its row, and the candidates are vertices
-pub record DropFits (n : ℕ) (t w : List ℕ) (v depth i m : ℕ) : Type 0 where
+-- the member v is added, and the candidates are vertices
+pub record DropFits (n : ℕ) (w : List ℕ) (v depth i m : ℕ) : Type 0 where
   pub marks-fit : MarksFit n w depth i m
-  pub table : TableFits n t
   pub vertex : v < n
   pub candidates : HoldsVertices n w (candidates_at n) m
 
 -- Of candidates i to m - 1, each that was still in and is not joined to v has dropped out at the depth; r of them are still in.
-pub record Dropped (n : ℕ) (t before after : List ℕ) (v depth i m r : ℕ) : Type 0 where
-  pub marks : (e : ℕ) → i ≤ e → e < m → marks_in n after e ≡ drop_out (graph_of n t) (candidates_in n before) v depth (marks_in n before) e
-  pub left : r ≡ count_in (marks_in n after) i (m - i)
-  pub kept : KeptButMarks n i m before after
+pub record Dropped (G : Graph) (before after : List ℕ) (v depth i m r : ℕ) : Type 0 where
+  pub marks : (e : ℕ) → i ≤ e → e < m → marks_in G.size after e ≡ drop_out G (candidates_in G.size before) v depth (marks_in G.size before) e
+  pub left : r ≡ count_in (marks_in G.size after) i (m - i)
+  pub kept : KeptButMarks G.size i m before after
 
 -- none of the candidates before place i dropped out at the depth that is left
 pub record ReturnFits (n : ℕ) (w : List ℕ) (depth i m : ℕ) : Type 0 where

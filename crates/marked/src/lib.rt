@@ -3,32 +3,18 @@
 // of their degrees. No crate calls it yet: the others call `larger::beaten`, which answers the same.
 #![tactic(auto)]
 
-ghost use Rattle.std.specs.Prelude.{◌≡◌, ◌+◌, ◌≤◌, min, max, eqb};
-ghost use Rattle.model.specs.Below.{bit};
+ghost use Rattle.std.specs.Prelude.{◌≡◌, ◌+◌, ◌*◌, ◌<◌, ◌≤◌, length, slice_index, EachIndex};
+ghost use Rattle.graph.specs.Held.{graph_in};
 ghost use Rattle.isolation.specs.Numbers.{Small};
 ghost use Rattle.larger.specs.Search.{Posed};
 ghost use Rattle.marked.specs.Marks.{dropped, returned};
 ghost use Rattle.marked.specs.Numbers.{grown_of, hopeless_of};
 ghost use Rattle.marked.specs.Places.{MarksFit, AllIn, DropFits, Dropped, ReturnFits, Returned};
-ghost use Rattle.marked.specs.Search.{ReadsLeast, Lowest, SearchFits, Start, FirstFound, Room, Searched, RoomWith, SearchedWith, Tested};
+ghost use Rattle.marked.specs.Search.{Lowest, Start, FirstFound, Room, Searched, RoomWith, SearchedWith, Tested};
 
-use graph::{degree_at, entry_at};
-use isolation::{Settings, Tally, isolated_by, less, with_member};
+use graph::{Lent, Table};
+use isolation::{Kind, Notion, Settings, Tally};
 use larger::joined_to_all;
-
-// The smaller of a and b.
-fn smaller(a: usize, b: usize) -> usize
-    ensures { result ≡ min a b }
-{
-    if b < a { b } else { a }
-}
-
-// The greater of a and b.
-fn greater(a: usize, b: usize) -> usize
-    ensures { result ≡ max a b }
-{
-    if a < b { b } else { a }
-}
 
 // The numbers t with x further members, of the degree that none of them is below: low, or how many others the clique then has. The least degree is left as it
 // is.
@@ -37,15 +23,12 @@ fn grown(t: Tally, x: usize, low: usize) -> Tally
     ensures { result ≡ grown_of t x low }
 {
     let members = t.members + x;
-    let others = less(members, 1);
-    let each = greater(low, others);
-    let largest = greater(t.largest, each);
-    let sum = t.sum + x * each;
+    let each = low.max(members.saturating_sub(1));
     Tally {
         members,
-        sum,
+        sum: t.sum + x * each,
         least: t.least,
-        largest,
+        largest: t.largest.max(each),
     }
 }
 
@@ -55,50 +38,43 @@ pub fn hopeless(s: Settings, t: Tally, r: usize, low: usize) -> bool
     requires { Small s (t.members + r) × (t.sum ≤ 67107840) × (low ≤ 65535) }
     ensures { result ≡ hopeless_of s t r low }
 {
-    if s.notion == 0 {
+    if s.notion() == Notion::Min {
         return false;
     }
     if r == 0 {
         return true;
     }
-    if isolated_by(s, grown(t, r, low)) {
+    if s.isolates(grown(t, r, low)) {
         return false;
     }
-    !isolated_by(s, grown(t, 1, low))
+    !s.isolates(grown(t, 1, low))
 }
 
 // The first way down: goes through the m candidates of part 3 of work once and adds each that is joined to those added so far to the members, which have the
 // numbers y. Whether a set on this way is isolated, which is often so and found at little cost; a no says nothing. Given up where no larger set can be
 // isolated. Reads the table and the degrees; writes those added where the candidates' marks will stand, the first m entries of part 4.
-fn first_way(
-    table: &[u8],
-    degrees: &[u16],
-    work: &mut [u16],
-    n: usize,
-    s: Settings,
-    y: Tally,
-    m: usize,
-) -> bool
-    requires { SearchFits n table.now degrees.now work.old × Start n work.old s y m }
-    ensures { FirstFound n table.now work.old work.new s y m result }
+fn first_way(lent: &Lent<'_>, work: &mut [u16], s: Settings, y: Tally, m: usize) -> bool
+    requires parts { 5 * lent.now.table.n ≤ length work.old }
+    requires start { Start lent.now.table.n work.old s y m }
+    ensures { FirstFound (graph_in lent.now.table) work.old work.new s y m result }
 {
+    let n = lent.table.n;
     let first = 4 * n;
     let mut end = first;
     let mut z = y;
-    let mut j = 0;
-    while j < m {
+    for j in 0..m {
         if hopeless(s, z, m - j, 0) {
             return false;
         }
-        let v = entry_at(work, 3 * n + j);
-        j += 1;
-        if joined_to_all(table, n, work, v, first, end) {
-            let d = degree_at(degrees, n, v);
-            z = with_member(z, d);
-            if isolated_by(s, z) {
+        let candidate = work[3 * n + j];
+        let v = usize::from(candidate);
+        if joined_to_all(&lent.table, v, &work[first..end]) {
+            let d = lent.degree(v);
+            z = z.with_member(d);
+            if s.isolates(z) {
                 return true;
             }
-            work[end] = v as u16;
+            work[end] = candidate;
             end += 1;
         }
     }
@@ -109,10 +85,7 @@ fn first_way(
 fn dropped(depth: u16, joined: bool, mark: u16) -> u16
     ensures { result ≡ dropped depth joined mark }
 {
-    if joined {
-        return mark;
-    }
-    if mark == 0 { depth } else { mark }
+    if mark == 0 && !joined { depth } else { mark }
 }
 
 // The mark of a candidate once the search returns from the depth: a candidate that dropped out there is in again.
@@ -122,37 +95,23 @@ fn returned(depth: u16, mark: u16) -> u16
     if mark == depth { 0 } else { mark }
 }
 
-// 1 where the mark is that of a candidate that is still in, else 0.
-fn one_in(mark: u16) -> usize
-    ensures { result ≡ bit (eqb mark 0) }
-{
-    if mark == 0 { 1 } else { 0 }
-}
-
 // Sets the marks of the m candidates to 0: all are in. Writes the first m entries of part 4 of work.
 fn clear_marks(work: &mut [u16], n: usize, m: usize)
     requires { MarksFit n work.old 0 0 m }
     ensures { AllIn n work.old work.new m }
 {
-    let mut j = 0;
-    while j < m {
-        work[4 * n + j] = 0;
-        j += 1;
-    }
+    work[4 * n..4 * n + m].fill(0);
 }
 
-// A number that no degree of the m candidates is below, here the least of them. Reads the first m entries of part 3 of work and the degrees of these vertices.
-fn least_degree(degrees: &[u16], work: &[u16], n: usize, m: usize) -> usize
-    requires { ReadsLeast n degrees.now work.now m }
-    ensures { Lowest n degrees.now work.now m result }
+// A number that no degree of the candidates is below, here the least of them. Reads the candidates and their degrees.
+fn least_degree(lent: &Lent<'_>, candidates: &[u16]) -> usize
+    requires { EachIndex candidates.now (λ i. slice_index candidates.now i < lent.now.table.n) }
+    ensures { Lowest (graph_in lent.now.table) candidates.now result }
 {
-    let mut low: usize = 65535;
-    let mut j = 0;
-    while j < m {
-        let v = entry_at(work, 3 * n + j);
-        let d = degree_at(degrees, n, v);
-        low = smaller(low, d);
-        j += 1;
+    let mut low = usize::from(u16::MAX);
+    for v in candidates {
+        let d = lent.degree(usize::from(*v));
+        low = low.min(d);
     }
     low
 }
@@ -160,27 +119,25 @@ fn least_degree(degrees: &[u16], work: &[u16], n: usize, m: usize) -> usize
 // Adds the member v at the depth: marks with it each of the candidates i to m - 1 that is still in and not joined to v, and says how many of them are still
 // in. Reads v's row of the table at these candidates; writes their marks, which are entries of part 4 of work.
 fn drop_out(
-    table: &[u8],
+    table: &Table<'_>,
     work: &mut [u16],
-    n: usize,
     v: usize,
     depth: usize,
     i: usize,
     m: usize,
 ) -> usize
-    requires { DropFits n table.now work.old v depth i m }
-    ensures { Dropped n table.now work.old work.new v depth i m result }
+    requires { DropFits table.now.n work.old v depth i m }
+    ensures { Dropped (graph_in table.now) work.old work.new v depth i m result }
 {
+    let n = table.n;
     let mark = depth as u16;
-    let mut left: usize = 0;
-    let mut j = i;
-    while j < m {
-        let u = entry_at(work, 3 * n + j);
-        let joined = graph::joined(table, n, v, u);
+    let mut left = 0;
+    for j in i..m {
+        let u = usize::from(work[3 * n + j]);
+        let joined = table.joined(v, u);
         let after = dropped(mark, joined, work[4 * n + j]);
         work[4 * n + j] = after;
-        left += one_in(after);
-        j += 1;
+        left += usize::from(after == 0);
     }
     left
 }
@@ -192,11 +149,9 @@ fn bring_back(work: &mut [u16], n: usize, depth: usize, i: usize, m: usize)
     ensures { Returned n work.old work.new depth i m }
 {
     let mark = depth as u16;
-    let mut j = i;
-    while j < m {
+    for j in i..m {
         let after = returned(mark, work[4 * n + j]);
         work[4 * n + j] = after;
-        j += 1;
     }
 }
 
@@ -205,10 +160,8 @@ fn bring_back(work: &mut [u16], n: usize, depth: usize, i: usize, m: usize)
 // after it: the candidates left fall. Reads the table and the degrees; writes the marks of the candidates, and leaves them as they were where it answers no.
 #[cycle(search)]
 fn search(
-    table: &[u8],
-    degrees: &[u16],
+    lent: &Lent<'_>,
     work: &mut [u16],
-    n: usize,
     s: Settings,
     y: Tally,
     low: usize,
@@ -216,21 +169,20 @@ fn search(
     m: usize,
     left: usize,
 ) -> bool
-    requires { SearchFits n table.now degrees.now work.old × Room n work.old s y low i m left }
-    ensures { Searched n table.now work.old work.new s y low i m result }
+    requires parts { 5 * lent.now.table.n ≤ length work.old }
+    requires state { Room lent.now.table.n work.old s y low i m left }
+    ensures { Searched (graph_in lent.now.table) work.old work.new s y low i m result }
 {
+    let n = lent.table.n;
     let mut still = left;
-    let mut j = i;
-    while j < m {
-        let place = j;
-        j += 1;
-        if entry_at(work, 4 * n + place) == 0 {
+    for j in i..m {
+        if work[4 * n + j] == 0 {
             if hopeless(s, y, still, low) {
                 return false;
             }
-            let v = entry_at(work, 3 * n + place);
+            let v = usize::from(work[3 * n + j]);
             still -= 1;
-            if search_with(table, degrees, work, n, s, y, low, v, j, m, still) {
+            if search_with(lent, work, s, y, low, v, j + 1, m, still) {
                 return true;
             }
         }
@@ -244,10 +196,8 @@ fn search(
 // that are maximal, since x + 2 are needed, so the larger set's own isolation test decides here.
 #[cycle(search)]
 fn search_with(
-    table: &[u8],
-    degrees: &[u16],
+    lent: &Lent<'_>,
     work: &mut [u16],
-    n: usize,
     s: Settings,
     y: Tally,
     low: usize,
@@ -256,52 +206,44 @@ fn search_with(
     m: usize,
     left: usize,
 ) -> bool
-    requires { SearchFits n table.now degrees.now work.old × RoomWith n work.old s y low v i m left }
-    ensures { SearchedWith n table.now work.old work.new s y low v i m result }
+    requires parts { 5 * lent.now.table.n ≤ length work.old }
+    requires state { RoomWith lent.now.table.n work.old s y low v i m left }
+    ensures { SearchedWith (graph_in lent.now.table) work.old work.new s y low v i m result }
 {
-    let d = degree_at(degrees, n, v);
-    let z = with_member(y, d);
-    if isolated_by(s, z) {
+    let d = lent.degree(v);
+    let z = y.with_member(d);
+    if s.isolates(z) {
         return true;
     }
     if hopeless(s, z, left, low) {
         return false;
     }
     let depth = z.members;
-    let kept = drop_out(table, work, n, v, depth, i, m);
-    if search(table, degrees, work, n, s, z, low, i, m, kept) {
+    let kept = drop_out(&lent.table, work, v, depth, i, m);
+    if search(lent, work, s, z, low, i, m, kept) {
         return true;
     }
-    bring_back(work, n, depth, i, m);
+    bring_back(work, lent.table.n, depth, i, m);
     false
 }
 
 // Whether a clique with the numbers y is not maximal of its kind, where the first m entries of part 3 of work are its common neighbours. Document 002,
-// definition 2 (kind 0): a larger isolated clique is searched for under avg and max; definition 1 (kind 1): a larger clique, so a common neighbour
-// decides, and under min it decides for both kinds (section 2.1). Reads the table and the degrees; writes the first m entries of part 4
-// of work, the candidates' marks, alone.
-pub fn beaten(
-    table: &[u8],
-    degrees: &[u16],
-    work: &mut [u16],
-    n: usize,
-    s: Settings,
-    y: Tally,
-    m: usize,
-) -> bool
-    requires { SearchFits n table.now degrees.now work.old × Posed n table.now work.old s y m }
-    ensures { Tested n table.now work.old work.new s y m result }
+// definition 2 (kind 0, maximal isolated): a larger isolated clique is searched for under avg and max; definition 1 (kind 1, isolated maximal): a larger
+// clique, so a common neighbour decides, and under min it decides for both kinds (section 2.1). Reads the table and the degrees; writes the first m entries
+// of part 4 of work, the candidates' marks, alone.
+pub fn beaten(lent: &Lent<'_>, work: &mut [u16], s: Settings, y: Tally, m: usize) -> bool
+    requires parts { 5 * lent.now.table.n ≤ length work.old }
+    requires posed { Posed (graph_in lent.now.table) work.old s y m }
+    ensures { Tested (graph_in lent.now.table) work.old work.new s y m result }
 {
-    if s.kind != 0 {
+    if s.kind() == Kind::IsolatedMaximal || s.notion() == Notion::Min {
         return 0 < m;
     }
-    if s.notion == 0 {
-        return 0 < m;
-    }
-    if first_way(table, degrees, work, n, s, y, m) {
+    if first_way(lent, work, s, y, m) {
         return true;
     }
-    let low = least_degree(degrees, work, n, m);
+    let n = lent.table.n;
+    let low = least_degree(lent, &work[3 * n..3 * n + m]);
     clear_marks(work, n, m);
-    search(table, degrees, work, n, s, y, low, 0, m, m)
+    search(lent, work, s, y, low, 0, m, m)
 }

@@ -1,11 +1,10 @@
 -- The members of a set in a part of the work slice: whether they are pairwise joined, and their numbers.
 -- Assumes nothing.
-use Prim.Native.Nat.{ℕ, ◌+◌, ◌-◌, ◌≤◌, ◌<◌}
-use mathlib.Core.Path.{◌≡◌, refl, sym, ap, ◌∙◌, subst}
+use Prim.Native.Nat.{ℕ, ◌+◌, ◌≤◌, ◌<◌}
+use mathlib.Core.Path.{◌≡◌, sym, ap, ◌∙◌, subst}
 use mathlib.Core.Bool.{Bool, true, false, true≢false}
 use mathlib.Core.List.{List, []}
 use mathlib.Core.Logic.{◌⊎◌, inl, inr}
-use native.Mathlib.Numerals.{add-one}
 use native.Mathlib.Omega.{arith}
 use lib.ListN.{length, get_or, take}
 use lib.Seq.{length-take-le, get_or-take}
@@ -20,9 +19,7 @@ use Rattle.theory.proofs.Search.Members.{tally-none, tally-next, tally-all}
 use Rattle.graph.specs.Degrees.{HoldsDegrees, ReadsDegree}
 use Rattle.isolation.specs.declared.Tally.{Tally}
 use Rattle.isolation.specs.Numbers.{with_member, TallyOf}
-use Rattle.theory.specs.Parts.{part}
-use Rattle.members.specs.Members.{HoldsMembers, pairwise, Tallies}
-use Rattle.theory.proofs.Basics.Parts.{part_length, part_at, part-take}
+use Rattle.members.specs.Members.{pairwise, Tallies}
 
 -- ---- pairwise joined
 
@@ -30,47 +27,15 @@ use Rattle.theory.proofs.Basics.Parts.{part_length, part_at, part-take}
 abbrev pub joins-before : Graph → List ℕ → ℕ → Bool
 joins-before G us i = joined_all G (get_or us i 0) (take i us)
 
-all_more : (i : ℕ) (p : ℕ → Bool) → all i p ≡ true → p i ≡ true → all (i + 1) p ≡ true
-unfolding all
-all_more i p e f = rw (add-one i) (rw (f, e))
-
-module _ (G : Graph) {w : List ℕ} {n k : ℕ} (held : HoldsMembers n w k) where
-  fits : n + k ≤ length w
-  fits = omega arith
-
-  -- the member v at place i
-  before-is : (i : ℕ) → i < k → {v : ℕ} → v ≡ get_or w (n + i) 0 → joined_all G v (part w n (n + i - n)) ≡ joins-before G (part w n k) i
-  before-is i h {v} r =
-      ap (λ (m : ℕ). joined_all G v (part w n m)) short
-      ∙ ap (λ (l : List ℕ). joined_all G v l) (sym (part-take w n k i (omega arith)))
-      ∙ ap (λ (u : ℕ). joined_all G u (take i (part w n k))) (r ∙ sym (part_at w n k i h))
-    where
-      short : n + i - n ≡ i
-      short = omega arith
-
-  pub pairs_none : all 0 (joins-before G (part w n k)) ≡ true
-  unfolding all
-  pairs_none = refl
-
-  pub pairs_more : (i : ℕ) → i < k → all i (joins-before G (part w n k)) ≡ true → {v : ℕ} → v ≡ get_or w (n + i) 0 → joined_all G v (part w n (n + i - n)) ≡ true
-      → all (i + 1) (joins-before G (part w n k)) ≡ true
-  pairs_more i h e r f = all_more i (joins-before G (part w n k)) e (sym (before-is i h r) ∙ f)
-
-  pub pairs_apart : (i : ℕ) → i < k → {v : ℕ} → v ≡ get_or w (n + i) 0 → joined_all G v (part w n (n + i - n)) ≡ false → pairwise G (part w n k) ≡ false
+-- each is, or one is not
+module _ (G : Graph) (us : List ℕ) where
+  pub pairs_all : ((i : ℕ) → i < length us → joins-before G us i ≡ true) → pairwise G us ≡ true
   unfolding pairwise
-  pairs_apart i h r f =
-      let s = part_length w n k fits in
-      fails (pairwise G (part w n k))
-      (λ e.
-      true≢false
-      (sym ((test_all (length (part w n k)) (joins-before G (part w n k)) (λ j. test_self)).0 e i (omega arith)) ∙ sym (before-is i h r) ∙ f))
+  pairs_all h = (test_all (length us) (joins-before G us) (λ j. test_self)).1 h
 
-  pub pairs_all : (i : ℕ) → i ≤ k → k ≤ i → all i (joins-before G (part w n k)) ≡ true → pairwise G (part w n k) ≡ true
+  pub pairs_apart : (i : ℕ) → i < length us → joins-before G us i ≡ false → pairwise G us ≡ false
   unfolding pairwise
-  pairs_all i h l e = ap (λ (m : ℕ). all m (joins-before G (part w n k))) whole ∙ e
-    where
-      whole : length (part w n k) ≡ i
-      whole = let s = part_length w n k fits in omega arith
+  pairs_apart i h f = fails (pairwise G us) (λ e. true≢false (sym ((test_all (length us) (joins-before G us) (λ j. test_self)).0 e i h) ∙ f))
 
 -- a set with members is a clique exactly where they are pairwise joined
 pub clique_test : (G : Graph) → Symmetric G → (S : VertexSet) (us : List ℕ) → Members G S us → 0 < length us → Test (pairwise G us) (Clique G S)
@@ -118,25 +83,22 @@ clique_test G symmetric S us M some = (there, back)
 abbrev pub TalliesFirst : ℕ → List ℕ → List ℕ → ℕ → Tally → Type 0
 TalliesFirst n degrees us i y = (G : Graph) → G.size ≡ n → HoldsDegrees n G degrees → (S : VertexSet) → Members G S us → TallyOf G (among (take i us)) y
 
-module _ {n : ℕ} {w : List ℕ} {k : ℕ} (held : HoldsMembers n w k) (degrees : List ℕ) where
-  long : length (part w n k) ≡ k
-  long = let f = held.few in let l = held.parts in part_length w n k (omega arith)
-
-  pub tallies_none : TalliesFirst n degrees (part w n k) 0 (record { members = 0; sum = 0; least = n; largest = 0 })
+module _ (n : ℕ) (degrees us : List ℕ) where
+  pub tallies_none : TalliesFirst n degrees us 0 (record { members = 0; sum = 0; least = n; largest = 0 })
   tallies_none G size d S M = subst (λ (m : ℕ). TallyOf G (among []) (record { members = 0; sum = 0; least = m; largest = 0 })) size (tally-none G)
 
   -- with the member v at place i, of degree d
-  pub tallies_more : (i : ℕ) → i < k → {y z : Tally} → TalliesFirst n degrees (part w n k) i y → {v d : ℕ} → v ≡ get_or w (n + i) 0 → ReadsDegree n degrees v d
-      → z ≡ with_member y d → TalliesFirst n degrees (part w n k) (i + 1) z
+  pub tallies_more : (i : ℕ) → i < length us → {y z : Tally} → TalliesFirst n degrees us i y → {v d : ℕ} → v ≡ get_or us i 0 → ReadsDegree n degrees v d
+      → z ≡ with_member y d → TalliesFirst n degrees us (i + 1) z
   tallies_more i h {y} {z} f r q e G size d S M =
-      subst (λ (x : Tally). TallyOf G (among (take (i + 1) (part w n k))) x)
-      (sym (e ∙ ap (with_member y) ((q.degree G size d).0 ∙ ap (degree G) (r ∙ sym (part_at w n k i h)))))
-      (tally-next G S (part w n k) M i (let s = long in omega arith) y.members y.sum y.least y.largest (f G size d S M))
+      subst (λ (x : Tally). TallyOf G (among (take (i + 1) us)) x)
+      (sym (e ∙ ap (with_member y) ((q.degree G size d).0 ∙ ap (degree G) r)))
+      (tally-next G S us M i h y.members y.sum y.least y.largest (f G size d S M))
 
-  pub tallies_all : (i : ℕ) → i ≤ k → k ≤ i → {y : Tally} → TalliesFirst n degrees (part w n k) i y → Tallies n degrees (part w n k) y
+  pub tallies_all : (i : ℕ) → i ≤ length us → length us ≤ i → {y : Tally} → TalliesFirst n degrees us i y → Tallies n degrees us y
   tallies_all i h l {y} f G size d S M =
-      tally-all G S (part w n k) M y.members y.sum y.least y.largest
-      (subst (λ (m : ℕ). TallyOf G (among (take m (part w n k))) y) whole (f G size d S M))
+      tally-all G S us M y.members y.sum y.least y.largest
+      (subst (λ (m : ℕ). TallyOf G (among (take m us)) y) whole (f G size d S M))
     where
-      whole : i ≡ length (part w n k)
-      whole = let s = long in omega arith
+      whole : i ≡ length us
+      whole = omega arith

@@ -1,6 +1,6 @@
 -- Digits and the numbers they make. Assumes nothing.
 use Prim.Native.Nat.{ℕ, zero, suc, ◌+◌, ◌*◌, ◌-◌, ◌≤◌, ◌<◌, ◌^◌}
-use mathlib.Core.Path.{◌≡◌, sym, ap, subst, ◌∙◌}
+use mathlib.Core.Path.{◌≡◌, sym, ap, ◌∙◌}
 use mathlib.Core.Bool.{true, false, ◌&&◌, and-false, or-true}
 use mathlib.Core.List.{List, [], ◌∷◌, ◌++◌}
 use mathlib.Core.Option.{Option, none, some}
@@ -13,9 +13,7 @@ use lib.Dec.{leb, eqb}
 use borrow.Author.Tests.{le-leb, lt-leb, ne_eqb}
 use Rattle.model.specs.Text.{digits, decimal, number_of}
 use Rattle.theory.proofs.Program.Numeral.{decimal-last, digits_last}
-use Rattle.number.specs.declared.Field.{Field}
-use Rattle.number.specs.declared.Pair.{Pair}
-use Rattle.number.specs.Field.{FirstDigit, NumberRead, PairRead}
+use Rattle.number.specs.Field.{FirstDigit}
 
 -- ---- a digit at a place
 
@@ -108,12 +106,3 @@ module _ (f : List ℕ) where
   pub number_digits : 0 < length f → length f ≤ 6 → (get_or f 0 0 ≡ 48 → ⊥) → digits f ≡ true → some (decimal 0 f) ≡ number_of f
   unfolding number_of
   number_digits h l e d = rw (le-leb 1 (length f) h, le-leb (length f) 6 l, d, ne_eqb (get_or f 0 0) 48 e, or-true (eqb (length f) 1))
-
--- ---- a field, or two, as they were read
-
--- what was read, by the case that it turned out to be
-pub read_as : {f g : Field} {word : Option ℕ} → f ≡ g → NumberRead word f → NumberRead word g
-read_as {word = word} e r = subst (NumberRead word) e r
-
-pub pair_as : {p q : Pair} {part : List ℕ} → p ≡ q → PairRead part p → PairRead part q
-pair_as {part = part} e r = subst (PairRead part) e r

@@ -1,5 +1,5 @@
 -- How a text splits into lines and a line into fields at the place that `find` gives. Assumes nothing.
-use Prim.Native.Nat.{ℕ, suc, ◌+◌, ◌-◌, ◌≤◌, ◌<◌, zero-le, suc-le-suc}
+use Prim.Native.Nat.{ℕ, suc, ◌+◌, ◌≤◌, ◌<◌, zero-le, suc-le-suc}
 use mathlib.Core.Path.{◌≡◌, sym, ap, ap₂, subst, ◌∙◌}
 use mathlib.Core.List.Memᴰ
 use mathlib.Core.List.{List, [], ◌∷◌, ◌++◌, Memᴰ}
@@ -7,7 +7,7 @@ use mathlib.Core.Logic.{⊎_elim}
 use native.Mathlib.Nat.{not-suc-le-zero, eq-or-lt_of_le}
 use native.Mathlib.Numerals.{add-one}
 use native.Mathlib.Omega.{arith}
-use lib.ListN.{length, get_or, take, drop, length-take, length-drop, drop_of_length-le}
+use lib.ListN.{length, get_or, take, drop, length-take, drop_of_length-le}
 use lib.Seq.{split_at, get_or-take, take_all}
 use Rattle.model.specs.Text.{lines_of, fields_of}
 use Rattle.theory.proofs.Text.EdgeTextCuts.{line_first, line-last, field_first}
@@ -54,11 +54,3 @@ lines_at {s} {r} f lt = ⊎_elim last hit (eq-or-lt_of_le f.within)
 -- the fields: the one up to the first space, and those after it
 pub fields_at : {s : List ℕ} {r : ℕ} → Found s 32 r → r < length s → fields_of s ≡ take r s ∷ fields_of (drop (r + 1) s)
 fields_at {s} {r} f lt = ap fields_of (part-hit s 32 r lt (f.hit lt)) ∙ field_first (take r s) (drop (r + 1) s) (part_free f)
-
--- a part that goes on to the end
-pub part_tail : (s : List ℕ) (from : ℕ) → take (length s - from) (drop from s) ≡ drop from s
-part_tail s from = take_all (length s - from) (drop from s) (simp length-drop (omega arith))
-
--- and its length
-pub part_length : (s : List ℕ) (from : ℕ) → length (take (length s - from) (drop from s)) ≡ length s - from
-part_length s from = ap length (part_tail s from) ∙ length-drop from s

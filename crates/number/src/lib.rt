@@ -3,36 +3,15 @@
 
 pub mod scan;
 
-ghost use Rattle.std.specs.Prelude.{◌≡◌, ◌<◌, length};
+ghost use Rattle.std.specs.Prelude.{IfSome};
 ghost use Rattle.model.specs.Text.{number_of};
 ghost use Rattle.number.specs.Field.{FirstDigit, DigitsLead, NumberLeads, NumberEnds, NumberRead, PairRead};
 
-// The number that some bytes start with: its value and the count of its digits, or a count of 0.
-#[derive(Drop)]
+// The number that some bytes start with: its value and the count of its digits.
+#[derive(Clone, Copy)]
 pub struct Lead {
     pub value: usize,
     pub count: usize,
-}
-
-// What a field says.
-#[derive(Drop)]
-pub enum Field {
-    Number(usize),
-    NoNumber,
-}
-
-// What two fields say.
-#[derive(Drop)]
-pub enum Pair {
-    Numbers(usize, usize),
-    NoPair,
-}
-
-// A byte, in a wider type.
-fn wide(b: u8) -> usize
-    ensures { result ≡ b }
-{
-    b as usize
 }
 
 // "A number is 1 to 6 digits, decimal": the digits that some bytes start with, 6 at most.
@@ -40,85 +19,54 @@ fn digits(bytes: &[u8]) -> Lead
     requires { FirstDigit bytes.now }
     ensures { DigitsLead bytes.now result }
 {
-    let mut value = wide(bytes[0] - b'0');
-    let mut i: usize = 1;
-    while i < bytes.len() {
-        if i == 6 {
-            return Lead { value, count: i };
+    let most = bytes.len().min(6);
+    let mut value = usize::from(bytes[0] - b'0');
+    for i in 1..most {
+        match bytes[i] {
+            b @ b'0'..=b'9' => value = value * 10 + usize::from(b - b'0'),
+            _ => return Lead { value, count: i },
         }
-        let b = bytes[i];
-        match b {
-            b'0'..=b'9' => {
-                value = value * 10 + wide(b - b'0');
-            }
-            _ => {
-                return Lead { value, count: i };
-            }
-        }
-        i += 1;
     }
-    Lead { value, count: i }
+    Lead { value, count: most }
 }
 
 // The number that some bytes start with, "without leading zero except 0 itself".
-fn leading(bytes: &[u8]) -> Lead
-    requires { 0 < length bytes.now }
+fn leading(bytes: &[u8]) -> Option<Lead>
     ensures { NumberLeads bytes.now result }
 {
-    let first = bytes[0];
-    match first {
-        b'0' => Lead { value: 0, count: 1 },
-        b'1'..=b'9' => digits(bytes),
-        _ => Lead { value: 0, count: 0 },
+    match bytes {
+        [b'0', ..] => Some(Lead { value: 0, count: 1 }),
+        [b'1'..=b'9', ..] => Some(digits(bytes)),
+        _ => None,
     }
 }
 
-// The number that some bytes start with and that byte b ends. A count of 0 says nothing of them.
-pub fn ended(bytes: &[u8], b: u8) -> Lead
-    ensures { 0 < result.count → NumberEnds bytes.now b result }
+// The number that some bytes start with and that byte b ends. `None` says nothing of them.
+pub fn ended(bytes: &[u8], b: u8) -> Option<Lead>
+    ensures { IfSome result (λ lead. NumberEnds bytes.now b lead) }
 {
-    if bytes.len() == 0 {
-        return Lead { value: 0, count: 0 };
-    }
-    let r = leading(bytes);
-    let count = r.count;
-    if bytes.len() <= count {
-        return Lead { value: 0, count: 0 };
-    }
-    if bytes[count] != b {
-        return Lead { value: 0, count: 0 };
-    }
-    r
+    let lead = leading(bytes)?;
+    let end = *bytes.get(lead.count)?;
+    (end == b).then_some(lead)
 }
 
 // The number of a field: "1 to 6 digits".
-pub fn number(field: &[u8]) -> Field
+pub fn number(field: &[u8]) -> Option<usize>
     ensures { NumberRead (number_of field.now) result }
 {
-    if field.len() == 0 {
-        return Field::NoNumber;
-    }
-    let r = leading(field);
-    if r.count < field.len() {
-        return Field::NoNumber;
-    }
-    Field::Number(r.value)
+    let lead = leading(field)?;
+    (lead.count == field.len()).then_some(lead.value)
 }
 
 // "Fields are parted by one space": two numbers, as N and M or U and V.
-pub fn two_numbers(part: &[u8]) -> Pair
+pub fn two_numbers(part: &[u8]) -> Option<(usize, usize)>
     ensures { PairRead part.now result }
 {
     let end = crate::scan::find(part, b' ');
-    if part.len() <= end {
-        return Pair::NoPair;
+    if end == part.len() {
+        return None;
     }
-    let Field::Number(a) = number(&part[..end]) else {
-        return Pair::NoPair;
-    };
-    let start = end + 1;
-    let Field::Number(b) = number(&part[start..]) else {
-        return Pair::NoPair;
-    };
-    Pair::Numbers(a, b)
+    let a = number(&part[..end])?;
+    let b = number(&part[end + 1..])?;
+    Some((a, b))
 }

@@ -5,12 +5,5 @@ ghost use Rattle.number.specs.Field.{Found};
 pub fn find(s: &[u8], b: u8) -> usize
     ensures { Found s.now b result }
 {
-    let mut i: usize = 0;
-    while i < s.len() {
-        if s[i] == b {
-            return i;
-        }
-        i += 1;
-    }
-    i
+    s.iter().position(|x| *x == b).unwrap_or(s.len())
 }

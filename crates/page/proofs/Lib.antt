@@ -1,2 +1,2 @@
--- The two halves of a page call: its refusal, and the walk of an accepted one.
-pub mod Halves
+-- The ways of a page call.
+pub mod Ways

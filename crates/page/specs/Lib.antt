@@ -1,3 +1,3 @@
--- What a page call promises, and what its two halves hand on.
+-- What a page call promises, and what an accepted one has when its walk goes on.
 pub mod Call
-pub mod Halves
+pub mod Accepted

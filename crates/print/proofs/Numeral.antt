@@ -1,42 +1,22 @@
--- A numeral digit by digit: the last one comes after the numeral of the tenth part. Assumes nothing.
-use Prim.Native.Nat.{ℕ, zero, suc, ◌+◌, ◌/◌, ◌%◌, ◌^◌, ◌≤◌, ◌<◌}
-use mathlib.Core.Path.{◌≡◌, refl, ap}
-use mathlib.Core.Bool.{Bool, true, false, cond}
-use mathlib.Core.List.{List, [], ◌∷◌, ◌++◌}
-use native.Mathlib.Nat.{not-suc-le-zero}
+-- A numeral is what std prints of a number, and how long it is. Assumes nothing.
+use Prim.Native.Nat.{ℕ, suc, ◌^◌, ◌≤◌, ◌<◌}
+use mathlib.Core.Path.{◌≡◌}
 use native.Mathlib.Omega.{arith}
 use lib.ListN.{length}
-use lib.Dec.{ltb}
-use borrow.Author.Tests.{ltb-false, lt-ltb, le-ltb}
+use Rattle.std.proofs.Common.{rules}
+use Rattle.std.proofs.lemmas.Fmt.{AppendsLastDigit, decimal_from_appends, length-decimal-le_succ}
+use Rattle.std.specs.Fmt.{decimal}
 use Rattle.model.specs.Program.{digits_within, numeral}
 use Rattle.theory.proofs.Program.Numeral.{numeral-length}
 
--- enough digits are allowed or more: the numeral is the same
-within_same : (m k j : ℕ) → k < m → k < j → digits_within m k ≡ digits_within j k
+-- one digit, or the last digit after those of the tenth part
+appends : AppendsLastDigit digits_within
 unfolding digits_within
-within_same zero k j h g = absurd (not-suc-le-zero h)
-within_same (suc m) k zero h g = absurd (not-suc-le-zero g)
-within_same (suc m) k (suc j) h g = go (ltb k 10) refl (within_same m (k / 10) j)
-  where
-    go : (b : Bool) → ltb k 10 ≡ b → (k / 10 < m → k / 10 < j → digits_within m (k / 10) ≡ digits_within j (k / 10))
-        → cond b ((48 + k) ∷ []) (digits_within m (k / 10) ++ ((48 + k % 10) ∷ []))
-        ≡ cond b ((48 + k) ∷ []) (digits_within j (k / 10) ++ ((48 + k % 10) ∷ []))
-    go true e ih = refl
-    go false e ih =
-        let l = ltb-false k 10 e in
-        ap (λ (d : List ℕ). d ++ ((48 + k % 10) ∷ [])) (ih (omega arith) (omega arith))
+appends = search rules
 
--- one digit
-pub numeral-digit : (k : ℕ) → k < 10 → numeral k ≡ (48 + k) ∷ []
-unfolding numeral digits_within
-numeral-digit k h = rw (lt-ltb k 10 h, digits_within)
-
--- more than one
-pub numeral-more : (k : ℕ) → 10 ≤ k → numeral k ≡ numeral (k / 10) ++ ((48 + k % 10) ∷ [])
-unfolding numeral digits_within
-numeral-more k h =
-    rw (le-ltb k 10 h, digits_within)
-    (ap (λ (d : List ℕ). d ++ ((48 + k % 10) ∷ [])) (within_same k (k / 10) (suc (k / 10)) (omega arith) (omega arith)))
+pub numeral_decimal : (k : ℕ) → k < 2 ^ 64 → numeral k ≡ decimal k
+unfolding numeral
+numeral_decimal k h = decimal_from_appends digits_within appends (suc k) k h (search (rules, length-decimal-le_succ))
 
 -- five digits hold any vertex, ten any 32-bit and twenty any 64-bit number
 pub five_digits : (k : ℕ) → k ≤ 65536 → length (numeral k) ≤ 5

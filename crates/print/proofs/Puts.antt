@@ -1,11 +1,10 @@
 -- Bytes that are put into a buffer one after another. Assumes nothing.
-use Prim.Native.Nat.{ℕ, ◌+◌, ◌≤◌, ◌<◌}
+use Prim.Native.Nat.{ℕ, ◌≤◌}
 use mathlib.Core.Path.{◌≡◌, sym, ap, ap₂, ◌∙◌, subst}
-use mathlib.Core.List.{List, [], ◌∷◌, ◌++◌, append_assoc}
-use native.Mathlib.Numerals.{add-one}
+use mathlib.Core.List.{List, [], ◌++◌, append_assoc}
 use native.Mathlib.Omega.{arith}
-use lib.ListN.{length, get_or, take, drop, set, length-append, length-drop, take-append-drop}
-use lib.Seq.{take-suc, take-length, take_at, drop_at, drop-drop, set_split, length-take-le}
+use lib.ListN.{length, take, drop, length-append, length-drop, take-append-drop}
+use lib.Seq.{take_at, drop_at, drop-drop, length-take-le}
 use Rattle.print.specs.Put.{Puts}
 
 -- by what is put
@@ -15,15 +14,6 @@ puts_as {b} {s} {x} {y} {a} {e} q p = subst (λ (l : List ℕ). Puts b s l a e) 
 -- nothing is put
 pub puts_none : {b : List ℕ} {s : ℕ} → s ≤ length b → Puts b s [] b s
 puts_none {b} {s} h = record { place = omega arith; within = h; bytes = sym (take-append-drop s b) }
-
--- one byte is put
-pub puts_one : {b : List ℕ} {s x : ℕ} → s < length b → Puts b s (x ∷ []) (set b s x) (s + 1)
-puts_one {b} {s} {x} h =
-    record {
-      place = omega arith;
-      within = omega arith;
-      bytes = set_split b s x h ∙ ap (λ (k : ℕ). take s b ++ (x ∷ drop k b)) (sym (add-one s));
-    }
 
 -- the buffer keeps its length
 pub puts-length : {b : List ℕ} {s : ℕ} {out a : List ℕ} {e : ℕ} → Puts b s out a e → length a ≡ length b
@@ -77,18 +67,3 @@ puts_then {b} {s} {x} {m} {e} {y} {a} {f} p q =
         ∙ ap (drop (length y)) (ap (drop e) split ∙ drop_at (take s b ++ x) (drop e b) e long)
         ∙ drop-drop (length y) e b
         ∙ ap (λ (k : ℕ). drop k b) (sym q.place)
-
--- and one byte after that
-pub puts-more : {b : List ℕ} {s : ℕ} {x m : List ℕ} {e : ℕ} → Puts b s x m e → (z : ℕ) → e < length m → Puts b s (x ++ (z ∷ [])) (set m e z) (e + 1)
-puts-more p z h = puts_then p (puts_one h)
-
--- the word's next byte
-pub puts-next : {b : List ℕ} {s : ℕ} {m : List ℕ} (w : List ℕ) (i : ℕ) → Puts b s (take i w) m (s + i) → i < length w → s + i < length m
-    → Puts b s (take (i + 1) w) (set m (s + i) (get_or w i 0)) (s + (i + 1))
-puts-next {b} {s} {m} w i p h g =
-    subst (λ (e : ℕ). Puts b s (take (i + 1) w) (set m (s + i) (get_or w i 0)) e) (omega arith)
-    (puts_as (sym (ap (λ (k : ℕ). take k w) (add-one i) ∙ take-suc w i 0 h)) (puts-more p (get_or w i 0) g))
-
--- all of the word
-pub puts_word : {b : List ℕ} {s : ℕ} {m : List ℕ} (w : List ℕ) (i : ℕ) → Puts b s (take i w) m (s + i) → i ≡ length w → Puts b s w m (s + i)
-puts_word w i p e = puts_as (ap (λ (k : ℕ). take k w) e ∙ take-length w) p

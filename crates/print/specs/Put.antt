@@ -2,7 +2,6 @@
 use Rattle.std.specs.Prelude.{ℕ, ◌+◌, ◌≤◌, ◌≡◌, List, [], ◌∷◌, ◌++◌, length, take, drop}
 use Rattle.model.specs.Program.{numeral}
 use Rattle.theory.specs.Printed.{printed_from}
-use Rattle.print.specs.declared.Printing.{Printing}
 
 -- the buffer holds `out` from place `start` on, `end` is the place after it, and all other bytes are as before
 pub record Puts (before : List ℕ) (start : ℕ) (out after : List ℕ) (end : ℕ) : Type 0 where
@@ -11,10 +10,10 @@ pub record Puts (before : List ℕ) (start : ℕ) (out after : List ℕ) (end : 
   pub bytes : after ≡ take start before ++ (out ++ drop end before)
 
 -- what is printed of an entry, with so many vertices to come, is put into the buffer, and what is printed of the entries after it follows
-pub record EntryPut (before : List ℕ) (start left entry : ℕ) (after : List ℕ) (r : Printing) : Type 0 where
+pub record EntryPut (before : List ℕ) (start left entry : ℕ) (after : List ℕ) (end left' : ℕ) : Type 0 where
   pub out : List ℕ
-  pub puts : Puts before start out after r.at
-  pub goes : (es : List ℕ) → printed_from left (entry ∷ es) ≡ out ++ printed_from r.left es
+  pub puts : Puts before start out after end
+  pub goes : (es : List ℕ) → printed_from left (entry ∷ es) ≡ out ++ printed_from left' es
   pub short : length out ≤ 6
 
 -- a word, two numbers parted by one space, and byte 10

@@ -1,81 +1,70 @@
 // The printed bytes: numbers in decimal, a line for each group, the end line and the refusal line, each put into a buffer.
 #![tactic(auto)]
 
-ghost use Rattle.std.specs.Prelude.{◌≡◌, cond, ◌+◌, ◌*◌, ◌≤◌, length, eqb};
+ghost use Rattle.std.specs.Prelude.{◌≡◌, ◌+◌, ◌*◌, ◌≤◌, length};
 ghost use Rattle.model.specs.Program.{numeral, end_line, refused_line};
 ghost use Rattle.theory.specs.Printed.{printed};
 ghost use Rattle.print.specs.Put.{Puts, EntryPut, line};
 
-// Where the next byte goes, and how many vertices of the record at hand are still to come.
+use itoa::Buffer;
+
+// A buffer, and where its next byte goes.
 #[derive(Drop)]
-pub struct Printing {
+pub struct Printer<'a> {
+    pub bytes: &'a mut [u8],
     pub at: usize,
-    pub left: usize,
 }
 
-// Puts the bytes of a word from a place on, and answers the place after them.
-pub fn put(bytes: &mut [u8], at: usize, word: &[u8]) -> usize
-    requires { at + length word.now ≤ length bytes.old }
-    ensures { Puts bytes.old at word.now bytes.new result }
-{
-    let mut i: usize = 0;
-    while i < word.len() {
-        bytes[at + i] = word[i];
-        i += 1;
+impl Printer<'_> {
+    // Puts the bytes of a word.
+    pub fn put(&mut self, word: &[u8])
+        requires { self.old.at + length word.now ≤ length self.old.bytes.now }
+        ensures same_reference { self.new.bytes.ghost_name ≡ self.old.bytes.ghost_name }
+        ensures puts { Puts self.old.bytes.now self.old.at word.now self.new.bytes.now self.new.at }
+    {
+        let end = self.at + word.len();
+        self.bytes[self.at..end].copy_from_slice(word);
+        self.at = end;
     }
-    at + i
-}
 
-// The byte of the digit d.
-fn digit(d: usize) -> u8
-    requires { d ≤ 9 }
-    ensures { result ≡ 48 + d }
-{
-    48 + d as u8
-}
-
-// Puts the decimal digits of k from a place on, and answers the place after them. The last digit comes after those of k / 10.
-pub fn put_number(bytes: &mut [u8], at: usize, k: usize) -> usize
-    requires { at + length (numeral k) ≤ length bytes.old }
-    ensures { Puts bytes.old at (numeral k) bytes.new result }
-{
-    if k < 10 {
-        bytes[at] = digit(k);
-        return at + 1;
+    // Puts the decimal digits of k.
+    pub fn put_number(&mut self, k: usize)
+        requires { self.old.at + length (numeral k) ≤ length self.old.bytes.now }
+        ensures same_reference { self.new.bytes.ghost_name ≡ self.old.bytes.ghost_name }
+        ensures puts { Puts self.old.bytes.now self.old.at (numeral k) self.new.bytes.now self.new.at }
+    {
+        self.put(Buffer::new().format(k).as_bytes());
     }
-    let last = put_number(bytes, at, k / 10);
-    bytes[last] = digit(k % 10);
-    last + 1
-}
 
-// What follows a vertex, with so many to come, itself among them: byte 10 after the last, else the one space that parts two.
-fn parting(left: usize) -> u8
-    ensures { result ≡ cond (eqb left 1) 10 32 }
-{
-    if left == 1 { b'\n' } else { b' ' }
-}
-
-// Puts what is printed of one output entry: "one line a group, vertices plus 1". With no vertex to come it is the size of the next record.
-fn put_entry(bytes: &mut [u8], at: usize, left: usize, entry: u16) -> Printing
-    requires { at + 6 ≤ length bytes.old }
-    ensures { EntryPut bytes.old at left entry bytes.new result }
-{
-    let e = entry as usize;
-    if left == 0 {
-        if e == 0 {
-            bytes[at] = b'\n';
-            return Printing {
-                at: at + 1,
-                left: 0,
-            };
+    // Puts what is printed of one output entry, with so many vertices of the record at hand to come: "one line a group, vertices plus 1". With none
+    // to come it is the size of the next record. Answers how many are to come after it.
+    fn put_entry(&mut self, left: usize, entry: u16) -> usize
+        requires { self.old.at + 6 ≤ length self.old.bytes.now }
+        ensures same_reference { self.new.bytes.ghost_name ≡ self.old.bytes.ghost_name }
+        ensures puts { EntryPut self.old.bytes.now self.old.at left entry self.new.bytes.now self.new.at result }
+    {
+        if left == 0 {
+            if entry == 0 {
+                self.put(b"\n");
+            }
+            return usize::from(entry);
         }
-        return Printing { at, left: e };
+        self.put_number(usize::from(entry) + 1);
+        self.put(if left == 1 { b"\n" } else { b" " });
+        left - 1
     }
-    let end = put_number(bytes, at, e + 1);
-    bytes[end] = parting(left);
-    Printing {
-        at: end + 1,
-        left: left - 1,
+
+    // Puts a word, two numbers parted by one space, and byte 10.
+    fn put_line(&mut self, word: &[u8], a: usize, b: usize)
+        requires { self.old.at + length word.now + length (numeral a) + length (numeral b) + 2 ≤ length self.old.bytes.now }
+        ensures same_reference { self.new.bytes.ghost_name ≡ self.old.bytes.ghost_name }
+        ensures puts { Puts self.old.bytes.now self.old.at (line word.now a b) self.new.bytes.now self.new.at }
+    {
+        self.put(word);
+        self.put_number(a);
+        self.put(b" ");
+        self.put_number(b);
+        self.put(b"\n");
     }
 }
 
@@ -84,26 +73,12 @@ pub fn print_entries(entries: &[u16], bytes: &mut [u8]) -> usize
     requires { 6 * length entries.now ≤ length bytes.old }
     ensures { Puts bytes.old 0 (printed entries.now) bytes.new result }
 {
-    let mut s = Printing { at: 0, left: 0 };
-    let mut i: usize = 0;
-    while i < entries.len() {
-        s = put_entry(bytes, s.at, s.left, entries[i]);
-        i += 1;
+    let mut printer = Printer { bytes, at: 0 };
+    let mut left = 0;
+    for entry in entries {
+        left = printer.put_entry(left, *entry);
     }
-    s.at
-}
-
-// Puts a word, two numbers parted by one space and byte 10, from the buffer's start on, and answers how many bytes that are.
-fn put_line(bytes: &mut [u8], word: &[u8], a: usize, b: usize) -> usize
-    requires { length word.now + length (numeral a) + length (numeral b) + 2 ≤ length bytes.old }
-    ensures { Puts bytes.old 0 (line word.now a b) bytes.new result }
-{
-    let first = put(bytes, 0, word);
-    let space = put_number(bytes, first, a);
-    bytes[space] = b' ';
-    let newline = put_number(bytes, space + 1, b);
-    bytes[newline] = b'\n';
-    newline + 1
+    printer.at
 }
 
 // Prints `end GROUPS STEPS` from the buffer's start on, and answers how many bytes that are.
@@ -111,7 +86,9 @@ pub fn end_line(groups: u32, steps: u32, bytes: &mut [u8]) -> usize
     requires { 26 ≤ length bytes.old }
     ensures { Puts bytes.old 0 (end_line groups steps) bytes.new result }
 {
-    put_line(bytes, b"end ", groups as usize, steps as usize)
+    let mut printer = Printer { bytes, at: 0 };
+    printer.put_line(b"end ", groups as usize, steps as usize);
+    printer.at
 }
 
 // Prints `refused NUMBER LINE` from the buffer's start on, and answers how many bytes that are.
@@ -119,5 +96,7 @@ pub fn refused_line(number: u32, line: usize, bytes: &mut [u8]) -> usize
     requires { 40 ≤ length bytes.old }
     ensures { Puts bytes.old 0 (refused_line number line) bytes.new result }
 {
-    put_line(bytes, b"refused ", number as usize, line)
+    let mut printer = Printer { bytes, at: 0 };
+    printer.put_line(b"refused ", number as usize, line);
+    printer.at
 }

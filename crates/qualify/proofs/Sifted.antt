@@ -13,9 +13,6 @@ use Rattle.theory.specs.Search.{joined_all}
 use Rattle.theory.specs.Parts.{part, Kept, HoldsVertices, Filled}
 use Rattle.theory.proofs.Basics.Parts.{part_length, part_at, same-members, filled_none, filled_push, filled_pass, kept-state, filled_candidates}
 use Rattle.theory.proofs.Basics.Passing.{map_at}
-use Rattle.graph.specs.Table.{graph_of}
-use Rattle.ranks.specs.Ranks.{ReadsVertex}
-use Rattle.ranks.proofs.Ranks.{vertex_read}
 use Rattle.qualify.specs.Qualify.{joined_of, Sifts, Sifted}
 
 -- a vertex at the end of a list is among those joined to all where it is joined to all
@@ -31,21 +28,24 @@ joined_of_push G us (u ∷ vs) v = go (joined_all G u us) (joined_of_push G us v
     go false e = e
 
 -- of the first j left vertices those that are joined to each taken one
-abbrev pub sifted : ℕ → List ℕ → List ℕ → ℕ → ℕ → ℕ → List ℕ
-sifted n t w taken left j = joined_of (graph_of n t) (part w n taken) (take j (map (vertex_at (graph_of n t)) (part w (2 * n) left)))
+abbrev pub sifted : Graph → List ℕ → ℕ → ℕ → ℕ → List ℕ
+sifted G w taken left j = joined_of G (part w G.size taken) (take j (map (vertex_at G) (part w (2 * G.size) left)))
 
-module _ {n : ℕ} {t order w₀ : List ℕ} {taken left : ℕ} (a : Sifts n t order w₀ taken left) where
+module _ {G : Graph} {w₀ : List ℕ} {taken left : ℕ} (a : Sifts G w₀ taken left) where
+  abbrev n : ℕ
+  n = G.size
+
   -- the left vertices
   abbrev lefts : List ℕ
-  lefts = map (vertex_at (graph_of n t)) (part w₀ (2 * n) left)
+  lefts = map (vertex_at G) (part w₀ (2 * n) left)
 
   part-full : length (part w₀ (2 * n) left) ≡ left
   part-full = let r = a.room in let k = a.few-left in part_length w₀ (2 * n) left (omega arith)
 
   lefts_length : length lefts ≡ left
-  lefts_length = length-map (part w₀ (2 * n) left) (vertex_at (graph_of n t)) ∙ part-full
+  lefts_length = length-map (part w₀ (2 * n) left) (vertex_at G) ∙ part-full
 
-  pub sifted_none : Filled (3 * n) (3 * n + n) (sifted n t w₀ taken left 0) w₀ w₀ 0
+  pub sifted_none : Filled (3 * n) (3 * n + n) (sifted G w₀ taken left 0) w₀ w₀ 0
   unfolding joined_of
   sifted_none = filled_none _ _ _ _ refl
 
@@ -53,9 +53,9 @@ module _ {n : ℕ} {t order w₀ : List ℕ} {taken left : ℕ} (a : Sifts n t o
   pub members-vertices : {w : List ℕ} → Kept (3 * n) (3 * n + n) w₀ w → HoldsVertices n w n taken
   members-vertices kept i h = let k = a.few-taken in let e = kept.below (n + i) (omega arith) in let l = a.vertices i h in omega arith
 
-  module _ {w : List ℕ} {m j : ℕ} (s : Filled (3 * n) (3 * n + n) (sifted n t w₀ taken left j) w₀ w m) where
+  module _ {w : List ℕ} {m j : ℕ} (s : Filled (3 * n) (3 * n + n) (sifted G w₀ taken left j) w₀ w m) where
     -- all are looked through
-    pub sifted_all : m ≤ j → j ≤ left → left ≤ j → Sifted n t w₀ w taken left m
+    pub sifted_all : m ≤ j → j ≤ left → left ≤ j → Sifted G w₀ w taken left m
     sifted_all f b h =
         let l = lefts_length in
         let e : j ≡ length lefts = omega arith in
@@ -63,7 +63,7 @@ module _ {n : ℕ} {t order w₀ : List ℕ} {taken left : ℕ} (a : Sifts n t o
           fewer = omega arith;
           found =
               filled_candidates
-              (filled_pass _ _ _ s _ (sym (ap (joined_of (graph_of n t) (part w₀ n taken)) (ap (λ (i : ℕ). take i lefts) e ∙ take-length lefts)))) a.few-taken
+              (filled_pass _ _ _ s _ (sym (ap (joined_of G (part w₀ n taken)) (ap (λ (i : ℕ). take i lefts) e ∙ take-length lefts)))) a.few-taken
               (let k = a.few-left in omega arith);
         }
 
@@ -76,33 +76,30 @@ module _ {n : ℕ} {t order w₀ : List ℕ} {taken left : ℕ} (a : Sifts n t o
       rank-small = let e = rank-kept in let l = a.left_ranks_lem j h in omega arith
 
       -- and v is its vertex
-      module _ {v : ℕ} (vertex : ReadsVertex n order r v) where
-        pub vertex-is : (v ≡ vertex_at (graph_of n t) r) × (v < n)
-        vertex-is = vertex_read a.ordered vertex
-
+      module _ {v : ℕ} (vertex-is : v ≡ vertex_at G r) where
         vertex-listed : v ≡ get_or lefts j 0
         vertex-listed =
             let l = part-full in
-            vertex-is.0
-            ∙ ap (vertex_at (graph_of n t)) (rank-kept ∙ sym (part_at w₀ (2 * n) left j h))
-            ∙ sym (map_at (vertex_at (graph_of n t)) (part w₀ (2 * n) left) j (omega arith))
+            vertex-is
+            ∙ ap (vertex_at G) (rank-kept ∙ sym (part_at w₀ (2 * n) left j h))
+            ∙ sym (map_at (vertex_at G) (part w₀ (2 * n) left) j (omega arith))
 
-        further : (b : Bool) → b ≡ joined_all (graph_of n t) v (part w n (n + taken - n))
-            → sifted n t w₀ taken left (j + 1) ≡ sifted n t w₀ taken left j ++ cond b (v ∷ []) []
+        further : (b : Bool) → b ≡ joined_all G v (part w n (n + taken - n))
+            → sifted G w₀ taken left (j + 1) ≡ sifted G w₀ taken left j ++ cond b (v ∷ []) []
         further b e =
             let l = lefts_length in
             let us = part w₀ n taken in
-            ap (joined_of (graph_of n t) us) (ap (λ (i : ℕ). take i lefts) (add-one j) ∙ take-suc lefts j 0 (omega arith))
-            ∙ joined_of_push (graph_of n t) us (take j lefts) (get_or lefts j 0)
-            ∙ ap (λ (u : ℕ). sifted n t w₀ taken left j ++ cond (joined_all (graph_of n t) u us) (u ∷ []) []) (sym vertex-listed)
-            ∙ ap (λ (c : Bool). sifted n t w₀ taken left j ++ cond c (v ∷ []) [])
-            (ap (joined_all (graph_of n t) v) (sym (same-members (kept-state s.kept a.few-taken))) ∙ sym e)
+            ap (joined_of G us) (ap (λ (i : ℕ). take i lefts) (add-one j) ∙ take-suc lefts j 0 (omega arith))
+            ∙ joined_of_push G us (take j lefts) (get_or lefts j 0)
+            ∙ ap (λ (u : ℕ). sifted G w₀ taken left j ++ cond (joined_all G u us) (u ∷ []) []) (sym vertex-listed)
+            ∙ ap (λ (c : Bool). sifted G w₀ taken left j ++ cond c (v ∷ []) [])
+            (ap (joined_all G v) (sym (same-members (kept-state s.kept a.few-taken))) ∙ sym e)
 
         -- it is written where it is joined to all, and else passed over
-        pub sifted_hit : m ≤ j → true ≡ joined_all (graph_of n t) v (part w n (n + taken - n))
-            → Filled (3 * n) (3 * n + n) (sifted n t w₀ taken left (j + 1)) w₀ (set w (3 * n + m) v) (m + 1)
+        pub sifted_hit : m ≤ j → true ≡ joined_all G v (part w n (n + taken - n))
+            → Filled (3 * n) (3 * n + n) (sifted G w₀ taken left (j + 1)) w₀ (set w (3 * n + m) v) (m + 1)
         sifted_hit f e = let k = a.few-left in let r = a.room in filled_push _ _ _ s v _ (further true e) (omega arith) (omega arith)
 
-        pub sifted_miss : false ≡ joined_all (graph_of n t) v (part w n (n + taken - n))
-            → Filled (3 * n) (3 * n + n) (sifted n t w₀ taken left (j + 1)) w₀ w m
+        pub sifted_miss : false ≡ joined_all G v (part w n (n + taken - n))
+            → Filled (3 * n) (3 * n + n) (sifted G w₀ taken left (j + 1)) w₀ w m
         sifted_miss e = filled_pass _ _ _ s _ (further false e ∙ append-nil _)

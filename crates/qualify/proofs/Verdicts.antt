@@ -18,14 +18,12 @@ use Rattle.theory.specs.Search.{Candidates}
 use Rattle.theory.proofs.Basics.Tests.{test_and, test_self, fails}
 use Rattle.theory.proofs.Basics.Passing.{passing-listed}
 use Rattle.theory.proofs.Basics.PassingParts.{passing-count}
-use Rattle.ranks.proofs.Ranks.{degrees-room}
 use Rattle.isolation.specs.declared.Settings.{Settings}
 use Rattle.isolation.specs.declared.Tally.{Tally}
 use Rattle.isolation.specs.Numbers.{settings_of, isolated_of, beaten_of, TallyOf}
 use Rattle.theory.specs.Parts.{part, StateKept}
-use Rattle.larger.specs.Search.{SearchFits, Posed, Tested}
+use Rattle.larger.specs.Search.{Posed, Tested}
 use Rattle.theory.proofs.Basics.Parts.{state_then}
-use Rattle.graph.specs.Table.{graph_of}
 use Rattle.state.specs.declared.State.{State}
 use Rattle.state.specs.State.{taken_ranks, left_ranks, Stands}
 use Rattle.qualify.specs.Qualify.{joined_of, candidates_of, Sifts, Sifted, tally_of, read_tally, TallyFits, Asks, SaysQualifies}
@@ -60,22 +58,11 @@ ranks-fit G p =
     omega arith)) in
     omega arith
 
--- the first and the last taken vertex are vertices
-module _ {n : ℕ} {d w : List ℕ} {s : State} (f : TallyFits n d w s) where
-  pub first_below : get_or w n 0 < n
-  first_below = let l = f.vertices 0 f.some in let e = ap (λ (k : ℕ). get_or w k 0) (add-zero n) in omega arith
-
-  pub last-below : get_or w (n + (s.taken - 1)) 0 < n
-  last-below = let h = f.some in f.vertices (s.taken - 1) (omega arith)
-
 -- numbers are equal where their four parts are
 pub same-tally : (x y : Tally) → x.members ≡ y.members → x.sum ≡ y.sum → x.least ≡ y.least → x.largest ≡ y.largest → x ≡ y
 same-tally x y a b c d i = record { members = a i; sum = b i; least = c i; largest = d i }
 
-module _ {n : ℕ} {t degrees order w : List ℕ} {q : Settings} {s : State} (a : Asks n t degrees order w q s) where
-  abbrev G : Graph
-  G = graph_of n t
-
+module _ {G : Graph} {w : List ℕ} {q : Settings} {s : State} (a : Asks G w q s) where
   abbrev p₀ : Position
   p₀ = a.stands.0
 
@@ -88,35 +75,34 @@ module _ {n : ℕ} {t degrees order w : List ℕ} {q : Settings} {s : State} (a 
   symmetric : Symmetric G
   symmetric = a.simple.symmetric
 
-  pub taken-few : s.taken ≤ n
+  pub taken-few : s.taken ≤ G.size
   taken-few = let b = h₀.bound in let c = h₀.taken-bound in omega arith
 
   -- ---- what the tests say
 
-  still : ((p : Position) → Stands G p w s → false ≡ found (rules G (settings_of q)) p) → SaysQualifies n t w w q s false
+  still : ((p : Position) → Stands G p w s → false ≡ found (rules G (settings_of q)) p) → SaysQualifies G w w q s false
   still f = record { answer = f; stands = λ p h. h; length-kept = refl }
 
-  pub judged_open : s.decided < n → SaysQualifies n t w w q s false
+  pub judged_open : s.decided < G.size → SaysQualifies G w w q s false
   judged_open l =
       still (λ p h. let e = h.long in sym (found_open G p (settings_of q) s.decided (omega arith) (h.still_open s.decided (omega arith))))
 
   pub length_taken : (p : Position) → Stands G p w s → length (taken_list G p) ≡ s.taken
   length_taken p h = taken-length G p ∙ taken-count G p w s h
 
-  pub judged_untaken : s.taken ≡ 0 → SaysQualifies n t w w q s false
+  pub judged_untaken : s.taken ≡ 0 → SaysQualifies G w w q s false
   judged_untaken e = still (λ p h. sym (found_untaken G p (settings_of q) (length_taken p h ∙ e)))
 
-  pub judged_apart : s.apart ≡ true → SaysQualifies n t w w q s false
+  pub judged_apart : s.apart ≡ true → SaysQualifies G w w q s false
   judged_apart e = still (λ p h. sym (found-apart G p (settings_of q) (sym h.apart ∙ e)))
 
-  module _ (all : n ≤ s.decided) (taken : s.taken ≢ 0) (met : s.apart ≡ false) where
+  module _ (all : G.size ≤ s.decided) (taken : s.taken ≢ 0) (met : s.apart ≡ false) where
     some : 0 < s.taken
     some = omega (arith, taken)
 
-    pub tally-fits : TallyFits n degrees w s
+    pub tally-fits : TallyFits G w s
     tally-fits =
         record {
-          degrees-fit = degrees-room a.ranked;
           work-fits = let r = h₀.room in omega arith;
           some = some;
           few = taken-few;
@@ -124,19 +110,17 @@ module _ {n : ℕ} {t degrees order w : List ℕ} {q : Settings} {s : State} (a 
         }
 
     -- what is read is the taken set's numbers
-    tally-is : (p : Position) → Stands G p w s → read_tally n degrees w s ≡ tally_of G p
+    tally-is : (p : Position) → Stands G p w s → read_tally G w s ≡ tally_of G p
     tally-is p h =
         let l = length_taken p h in
         let first = vertex-entry G p w s h 0 some in
         let last = vertex-entry G p w s h (s.taken - 1) (omega arith) in
-        let zero_in = ap (λ (k : ℕ). get_or w k 0) (sym (add-zero n)) in
-        let low = vertex_low h₀ 0 some in
-        let high = vertex_low h₀ (s.taken - 1) (omega arith) in
+        let zero_in = ap (λ (k : ℕ). get_or w k 0) (sym (add-zero G.size)) in
         same-tally _ _
         (sym l)
         h.sum
-        (a.ranked.degrees (get_or w n 0) (omega arith) ∙ ap (degree G) (zero_in ∙ first))
-        (a.ranked.degrees (get_or w (n + (s.taken - 1)) 0) high ∙ ap (degree G) (last ∙ ap (λ (k : ℕ). get_or (taken_list G p) (k - 1) 0) (sym l)))
+        (ap (degree G) (zero_in ∙ first))
+        (ap (degree G) (last ∙ ap (λ (k : ℕ). get_or (taken_list G p) (k - 1) 0) (sym l)))
 
     some-listed : (p : Position) → Stands G p w s → 0 < length (taken_list G p)
     some-listed p h = let l = length_taken p h in omega arith
@@ -149,22 +133,21 @@ module _ {n : ℕ} {t degrees order w : List ℕ} {q : Settings} {s : State} (a 
     found-is p h =
         found_by G p h.long h.bytes (all_decided_lem p h) (some-listed p h) loopless symmetric (settings_of q) (sym h.apart ∙ met)
 
-    module _ {y : Tally} (e : y ≡ read_tally n degrees w s) where
+    module _ {y : Tally} (e : y ≡ read_tally G w s) where
       isolated-is : (p : Position) → Stands G p w s → isolated_of q (tally_of G p) ≡ isolated_of q y
       isolated-is p h = ap (isolated_of q) (sym (e ∙ tally-is p h))
 
       -- the taken set is not isolated
-      pub judged_exposed : isolated_of q y ≡ false → SaysQualifies n t w w q s false
+      pub judged_exposed : isolated_of q y ≡ false → SaysQualifies G w w q s false
       judged_exposed f =
           still (λ p h. sym (found-is p h ∙ ap (λ (b : Bool). b && not (beaten_of G q (tally_of G p) (candidates_of G p))) (isolated-is p h ∙ f)))
 
       -- ---- the common neighbours
 
-      pub sifts : Sifts n t order w s.taken s.left
+      pub sifts : Sifts G w s.taken s.left
       unfolding left_ranks
       sifts =
           record {
-            ordered = a.ranked.ordered;
             room = h₀.room;
             few-taken = taken-few;
             few-left = left-few h₀;
@@ -176,26 +159,18 @@ module _ {n : ℕ} {t degrees order w : List ℕ} {q : Settings} {s : State} (a 
                 omega arith;
           }
         where
-          left_below : (p : Position) (i : ℕ) → i < length (left_ranks G p) → get_or (left_ranks G p) i 0 < n
-          left_below p i l = (passing-listed (λ r. has 1 p && is 2 p r && adjacent G (pivot G p) r) n (get_or (left_ranks G p) i 0) (i, l, refl)).0
+          left_below : (p : Position) (i : ℕ) → i < length (left_ranks G p) → get_or (left_ranks G p) i 0 < G.size
+          left_below p i l = (passing-listed (λ r. has 1 p && is 2 p r && adjacent G (pivot G p) r) G.size (get_or (left_ranks G p) i 0) (i, l, refl)).0
 
-      module _ {w₁ : List ℕ} {m : ℕ} (f : Sifted n t w w₁ s.taken s.left m) where
-        candidates_are : (p : Position) → Stands G p w s → part w₁ (3 * n) m ≡ candidates_of G p
+      module _ {w₁ : List ℕ} {m : ℕ} (f : Sifted G w w₁ s.taken s.left m) where
+        candidates_are : (p : Position) → Stands G p w s → part w₁ (3 * G.size) m ≡ candidates_of G p
         unfolding candidates_of
         candidates_are p h = f.found.listed ∙ ap₂ (λ (us vs : List ℕ). joined_of G us (map (vertex_at G) vs)) h.vertices h.left
 
-        pub lent : SearchFits n t degrees w₁
-        lent =
-            let r = h₀.room in
-            let k = f.found.kept.length-kept in
-            record {
-              table = a.ranked.ordered.fits;
-              degrees-fit = degrees-room a.ranked;
-              degrees = a.ranked.degrees;
-              parts = omega arith;
-            }
+        pub parts : 4 * G.size ≤ length w₁
+        parts = let r = h₀.room in let k = f.found.kept.length-kept in omega arith
 
-        pub posed : Posed n t w₁ q y m
+        pub posed : Posed G w₁ q y m
         posed =
             record {
               set = taken_set G p₀;
@@ -210,7 +185,7 @@ module _ {n : ℕ} {t degrees order w : List ℕ} {q : Settings} {s : State} (a 
                   (taken-candidates G p₀ h₀.long h₀.bytes (all_decided_lem p₀ h₀) (some-listed p₀ h₀) loopless symmetric);
             }
           where
-            room-left : y.members + m ≤ n
+            room-left : y.members + m ≤ G.size
             room-left =
                 let k = ap (λ (x : Tally). x.members) e in
                 let c = taken-count G p₀ w s h₀ in
@@ -220,7 +195,7 @@ module _ {n : ℕ} {t degrees order w : List ℕ} {q : Settings} {s : State} (a 
                 omega arith
 
         -- an isolated taken set: it qualifies where it is not beaten
-        pub judged_by : isolated_of q y ≡ true → {w₂ : List ℕ} {b : Bool} → Tested n t w₁ w₂ q y m b → SaysQualifies n t w w₂ q s (not b)
+        pub judged_by : isolated_of q y ≡ true → {w₂ : List ℕ} {b : Bool} → Tested G w₁ w₂ q y m b → SaysQualifies G w w₂ q s (not b)
         judged_by i {w₂} {b} x =
             record {
               answer = λ p h.
@@ -230,5 +205,5 @@ module _ {n : ℕ} {t degrees order w : List ℕ} {q : Settings} {s : State} (a 
               length-kept = kept.length-kept;
             }
           where
-            kept : StateKept n s.taken w w₂
+            kept : StateKept G.size s.taken w w₂
             kept = state_then f.found.kept x.kept (let k = ap (λ (z : Tally). z.members) e in omega arith)

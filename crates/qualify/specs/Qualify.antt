@@ -6,13 +6,10 @@ use Rattle.model.specs.Meaning.{Simple}
 use Rattle.model.specs.Walk.{Position, found}
 use Rattle.model.specs.Listing.{taken_list, rules}
 use Rattle.theory.specs.Search.{joined_all}
-use Rattle.graph.specs.Degrees.{DegreesFit}
-use Rattle.ranks.specs.Ranks.{OrderOf, HoldsRanks}
 use Rattle.isolation.specs.declared.Settings.{Settings}
 use Rattle.isolation.specs.declared.Tally.{Tally}
 use Rattle.isolation.specs.Numbers.{settings_of, FactorFits}
 use Rattle.theory.specs.Parts.{part, members_at, left_ranks_at, HoldsVertices, CandidatesIn}
-use Rattle.graph.specs.Table.{graph_of}
 use Rattle.state.specs.declared.State.{State}
 use Rattle.state.specs.State.{left_ranks, degrees_of, Stands, StandsForOne}
 
@@ -25,19 +22,18 @@ joined_of G us (v ∷ vs) = let rest = joined_of G us vs in cond (joined_all G v
 unfoldable pub candidates_of : Graph → Position → List ℕ
 candidates_of G p = joined_of G (taken_list G p) (map (vertex_at G) (left_ranks G p))
 
--- what `candidates` asks for: the graph's rank order, taken vertices in part 1 of the work slice and left ranks in part 2
-pub record Sifts (n : ℕ) (t order w : List ℕ) (taken left : ℕ) : Type 0 where
-  pub ordered : OrderOf n t order
-  pub room : 8 * n ≤ length w
-  pub few-taken : taken ≤ n
-  pub few-left : left ≤ n
-  pub vertices : HoldsVertices n w (members_at n) taken
-  pub left_ranks_lem : HoldsVertices n w (left_ranks_at n) left
+-- what `candidates` asks for: taken vertices in part 1 of the work slice and left ranks in part 2
+pub record Sifts (G : Graph) (w : List ℕ) (taken left : ℕ) : Type 0 where
+  pub room : 8 * G.size ≤ length w
+  pub few-taken : taken ≤ G.size
+  pub few-left : left ≤ G.size
+  pub vertices : HoldsVertices G.size w (members_at G.size) taken
+  pub left_ranks_lem : HoldsVertices G.size w (left_ranks_at G.size) left
 
 -- what it leaves: in part 3 m vertices, those of the left ones that are joined to each taken one; and that the state's entries are as they were
-pub record Sifted (n : ℕ) (t before after : List ℕ) (taken left m : ℕ) : Type 0 where
+pub record Sifted (G : Graph) (before after : List ℕ) (taken left m : ℕ) : Type 0 where
   pub fewer : m ≤ left
-  pub found : CandidatesIn n taken (joined_of (graph_of n t) (part before (members_at n) taken) (map (vertex_at (graph_of n t)) (part before (left_ranks_at n) left))) before after m
+  pub found : CandidatesIn G.size taken (joined_of G (part before (members_at G.size) taken) (map (vertex_at G) (part before (left_ranks_at G.size) left))) before after m
 
 -- the taken set's numbers: how many, the sum of their degrees, the least, which is the first one's, and the largest, which is the last one's
 abbrev pub tally_of : Graph → Position → Tally
@@ -49,33 +45,31 @@ tally_of G p =
       largest = degree G (get_or (taken_list G p) (length (taken_list G p) - 1) 0);
     }
 
--- the same as code reads them off the state, the list of degrees and the taken vertices in part 1 of the work slice
-abbrev pub read_tally : ℕ → List ℕ → List ℕ → State → Tally
-read_tally n d w s =
+-- the same as code reads them off the state and the taken vertices in part 1 of the work slice
+abbrev pub read_tally : Graph → List ℕ → State → Tally
+read_tally G w s =
     record {
       members = s.taken;
       sum = s.sum;
-      least = get_or d (get_or w (members_at n) 0) 0;
-      largest = get_or d (get_or w (members_at n + (s.taken - 1)) 0) 0;
+      least = degree G (get_or w (members_at G.size) 0);
+      largest = degree G (get_or w (members_at G.size + (s.taken - 1)) 0);
     }
 
 -- what reading them asks for
-pub record TallyFits (n : ℕ) (d w : List ℕ) (s : State) : Type 0 where
-  pub degrees-fit : DegreesFit n d
-  pub work-fits : 8 * n ≤ length w
+pub record TallyFits (G : Graph) (w : List ℕ) (s : State) : Type 0 where
+  pub work-fits : 8 * G.size ≤ length w
   pub some : 0 < s.taken
-  pub few : s.taken ≤ n
-  pub vertices : HoldsVertices n w (members_at n) s.taken
+  pub few : s.taken ≤ G.size
+  pub vertices : HoldsVertices G.size w (members_at G.size) s.taken
 
--- what `qualifies` asks for: the table of a graph of document 01 with its degrees and rank order, a factor that is not refused, and a state that stands for a position
-pub record Asks (n : ℕ) (t degrees order w : List ℕ) (q : Settings) (s : State) : Type 0 where
-  pub ranked : HoldsRanks n t degrees order
-  pub simple : Simple (graph_of n t)
+-- what `qualifies` asks for beside the ranked table: its graph is one of document 01, the factor is not refused, and the state stands for a position
+pub record Asks (G : Graph) (w : List ℕ) (q : Settings) (s : State) : Type 0 where
+  pub simple : Simple G
   pub factor : FactorFits q
-  pub stands : StandsForOne (graph_of n t) w s
+  pub stands : StandsForOne G w s
 
 -- its answer for each position for which the state stands, and that the state still stands for it
-pub record SaysQualifies (n : ℕ) (t before after : List ℕ) (q : Settings) (s : State) (r : Bool) : Type 0 where
-  pub answer : (p : Position) → Stands (graph_of n t) p before s → r ≡ found (rules (graph_of n t) (settings_of q)) p
-  pub stands : (p : Position) → Stands (graph_of n t) p before s → Stands (graph_of n t) p after s
+pub record SaysQualifies (G : Graph) (before after : List ℕ) (q : Settings) (s : State) (r : Bool) : Type 0 where
+  pub answer : (p : Position) → Stands G p before s → r ≡ found (rules G (settings_of q)) p
+  pub stands : (p : Position) → Stands G p before s → Stands G p after s
   pub length-kept : length after ≡ length before

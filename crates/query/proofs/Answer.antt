@@ -10,7 +10,13 @@ use Rattle.model.specs.Below.{bit}
 use Rattle.model.specs.Graph.{LentGraph}
 use Rattle.model.specs.Groups.{settings}
 use Rattle.model.specs.Calls.{refuse_query, query_reply, answer_to}
-use Rattle.query.specs.Query.{Decided, Answers}
+use Rattle.std.specs.Prelude.{Result, Ok}
+use Rattle.std.specs.Result.{IsErrAnd}
+use Rattle.std.proofs.lemmas.Result.{err_from_is_err_and}
+use Rattle.refusal.specs.declared.Refusal.{Refusal}
+use Rattle.refusal.specs.Numbers.{number}
+use Rattle.refusal.proofs.Handed.{number-some}
+use Rattle.query.specs.Query.{Decided, answer_of, Answers}
 
 -- the parts of a reply by the refusal number
 pub reply_refused : (k : ℕ) (q : Bool) → (query_reply k q).refused ≡ k
@@ -29,24 +35,28 @@ reply_yes k q e = rw e
 
 module _ {L : LentGraph} {bs w : List ℕ} {notion kind c : ℕ} where
   -- refused: its number, no, and the work slice as it was
-  pub answer-refused : (r : ℕ) → r ≡ refuse_query L (settings notion kind c) bs (length w) → r ≢ 0 → Answers L bs w w notion kind c (record { refusal = r; yes = 0 })
+  pub answer-refused : (q : Result Bool Refusal) (r : Refusal) → IsErrAnd q (λ e. e ≡ r) → number r ≡ refuse_query L (settings notion kind c) bs (length w)
+      → Answers L bs w w notion kind c (answer_of q)
   unfolding answer_to
-  answer-refused r e d =
-      record {
-        refused = e ∙ sym (reply_refused _ _);
-        yes = ap bit (sym (reply_no (refuse_query L (settings notion kind c) bs (length w)) _ (λ q. d (e ∙ q))));
-        length-kept = refl;
-        unchanged = λ q. refl;
-      }
+  answer-refused q r h e = let p = err_from_is_err_and q h in rw (p.1, p.2) with_number
+    where
+      with_number : Answers L bs w w notion kind c (record { refusal = number r; yes = 0 })
+      with_number =
+          record {
+            refused = e ∙ sym (reply_refused _ _);
+            yes = ap bit (sym (reply_no (refuse_query L (settings notion kind c) bs (length w)) _ (λ z. number-some r (e ∙ z))));
+            length-kept = refl;
+            unchanged = λ z. refl;
+          }
 
   -- accepted: what the set's test says
-  pub answer-decided : {w₁ : List ℕ} {b : Bool} → refuse_query L (settings notion kind c) bs (length w) ≡ 0 → Decided L.graph bs w w₁ (settings notion kind c) b
-      → (y : ℕ) → y ≡ bit b → Answers L bs w w₁ notion kind c (record { refusal = 0; yes = y })
+  pub answer-decided : {w₁ : List ℕ} {b : Bool} → 0 ≡ refuse_query L (settings notion kind c) bs (length w) → Decided L.graph bs w w₁ (settings notion kind c) b
+      → Answers L bs w w₁ notion kind c (answer_of (Ok b))
   unfolding answer_to
-  answer-decided e d y f =
+  answer-decided e d =
       record {
-        refused = sym (reply_refused _ _ ∙ e);
-        yes = f ∙ ap bit (d.answer ∙ sym (reply_yes (refuse_query L (settings notion kind c) bs (length w)) _ e));
+        refused = e ∙ sym (reply_refused _ _);
+        yes = ap bit (d.answer ∙ sym (reply_yes (refuse_query L (settings notion kind c) bs (length w)) _ (sym e)));
         length-kept = d.length-kept;
         unchanged = λ q. absurd (q refl);
       }

@@ -1,6 +1,7 @@
 -- Whether a set qualifies, from what each step of the set query gives.
 -- Assumes nothing.
-use Prim.Native.Nat.{ℕ, ◌+◌, ◌*◌, ◌≤◌}
+use Prim.Native.Nat.{ℕ, ◌+◌, ◌-◌, ◌*◌, ◌≤◌, ◌<◌}
+use Rattle.std.specs.Prelude.{EachIndex, slice_index}
 use mathlib.Core.Path.{◌≡◌, refl, sym, ap, ◌∙◌, subst}
 use mathlib.Core.Bool.{Bool, true, false, ◌&&◌, not, true≢false}
 use mathlib.Core.List.{List}
@@ -25,13 +26,15 @@ use Rattle.theory.proofs.Search.Maximal.{qualifies-tally}
 use Rattle.isolation.specs.declared.Settings.{Settings}
 use Rattle.isolation.specs.declared.Tally.{Tally}
 use Rattle.isolation.specs.Numbers.{settings_of, Small, isolated_of, beaten_of, TallyOf}
-use Rattle.input.proofs.Refusals.{InputPassed}
+use Rattle.input.proofs.Refusals.{InputHeld}
 use Rattle.theory.specs.Parts.{part, members_at, candidates_at, CandidatesIn}
-use Rattle.larger.specs.Search.{SearchFits, Posed, Tested}
+use Rattle.larger.specs.Search.{Posed, Tested}
 use Rattle.members.specs.Members.{MembersFit, HoldsMembers, MembersIn, pairwise, Tallies}
 use Rattle.query.specs.Query.{QueryReady, Decided}
 use Rattle.theory.proofs.Basics.Parts.{part_length, part_at}
-use Rattle.graph.specs.Table.{graph_of}
+use Rattle.graph.specs.Held.{graph_in}
+use Rattle.graph.specs.declared.lent.Lent.{Lent}
+use Rattle.larger.proofs.Joined.{part-vertices}
 use Rattle.members.proofs.Listed.{clique_test}
 use Rattle.query.proofs.Refusals.{query-accepted}
 
@@ -56,32 +59,38 @@ both_fit G S =
 
 -- ---- one set query that is accepted
 
-module _ {n : ℕ} {t d bs w₀ : List ℕ} {s : Settings} (ready : QueryReady n t d bs w₀ s) where
+module _ {L : Lent} {bs w₀ : List ℕ} {s : Settings} (ready : QueryReady L bs w₀ s) where
+  abbrev n : ℕ
+  n = L.table.n
+
   abbrev graph : Graph
-  graph = graph_of n t
+  graph = graph_in L.table
 
   abbrev members : VertexSet
   members = by_bytes bs
 
-  pub accepted : InputPassed n t d s (length bs) (length w₀)
-  accepted = query-accepted n t d s bs (length w₀) ready.accepted
+  pub accepted : InputHeld L s (length bs) (length w₀)
+  accepted = query-accepted L s bs (length w₀) ready.accepted
 
   loopless : Loopless graph
-  loopless = accepted.graph.simple.loopless
+  loopless = accepted.simple.loopless
 
   symmetric : Symmetric graph
-  symmetric = accepted.graph.simple.symmetric
+  symmetric = accepted.simple.symmetric
 
-  pub work-fits : MembersFit n w₀
-  work-fits = record { small = accepted.graph.fits.small; parts = let r = accepted.enough in omega arith }
+  pub work-fits : MembersFit (length bs) w₀
+  work-fits = rw accepted.long (record { small = L.table.fits.small; parts = let r = accepted.enough in omega arith })
 
   -- after the members were written
-  module _ {w₁ : List ℕ} {k : ℕ} (wrote : MembersIn n (passing n (is 1 bs)) w₀ w₁ k) where
-    long : 8 * n ≤ length w₁
+  module _ {w₁ : List ℕ} {k : ℕ} (written : MembersIn (length bs) (passing (length bs) (is 1 bs)) w₀ w₁ k) where
+    wrote : MembersIn n (passing n (is 1 bs)) w₀ w₁ k
+    wrote = rw accepted.long at written
+
+    pub long : 8 * n ≤ length w₁
     long = let r = accepted.enough in omega arith
 
     long-members : length (part w₁ (members_at n) k) ≡ k
-    long-members = let l = long in part_length w₁ n k (omega arith)
+    long-members = let l = long in let f = wrote.few in part_length w₁ n k (omega arith)
 
     has-members : Members graph members (part w₁ (members_at n) k)
     has-members =
@@ -99,6 +108,19 @@ module _ {n : ℕ} {t d bs w₀ : List ℕ} {s : Settings} (ready : QueryReady n
               let p = part_at w₁ n k i h in
               omega arith;
         }
+
+    -- the part of the slice in which they stand
+    pub same-part : part w₁ n (n + k - n) ≡ part w₁ (members_at n) k
+    same-part = ap (part w₁ n) short
+      where
+        short : n + k - n ≡ k
+        short = omega arith
+
+    pub members-vertices : EachIndex (part w₁ n (n + k - n)) (λ i. slice_index (part w₁ n (n + k - n)) i < n)
+    members-vertices = rw same-part (part-vertices n w₁ n k holds-members.vertices)
+
+    pub members-few : length (part w₁ n (n + k - n)) ≤ n
+    members-few = let f = wrote.few in rw (same-part, long-members) f
 
     decided : {r : Bool} → r ≡ qualifies graph (settings_of s) members → Decided graph bs w₀ w₁ (settings_of s) r
     decided e = record { answer = e; length-kept = wrote.length-kept }
@@ -123,14 +145,14 @@ module _ {n : ℕ} {t d bs w₀ : List ℕ} {s : Settings} (ready : QueryReady n
     pub record Counted (y : Tally) : Type 0 where
       pub some : k ≢ 0
       pub joined : pairwise graph (part w₁ (members_at n) k) ≡ true
-      pub tallies : Tallies n d (part w₁ (members_at n) k) y
+      pub tallies : Tallies n L.degrees.now (part w₁ (members_at n) k) y
 
     module _ {y : Tally} (counted : Counted y) where
       clique : Clique graph members
       clique = (cliques counted.some).0 counted.joined
 
       tally : TallyOf graph members y
-      tally = counted.tallies graph refl accepted.graph.degrees members has-members
+      tally = counted.tallies graph refl L.listed.degrees members has-members
 
       -- what the isolation test requires
       pub small-numbers : Small s y.members
@@ -140,7 +162,7 @@ module _ {n : ℕ} {t d bs w₀ : List ℕ} {s : Settings} (ready : QueryReady n
             members =
                 let a = tally.members in
                 let b = both_fit graph members in
-                let d = accepted.graph.fits.small in
+                let d = L.table.fits.small in
                 omega arith;
           }
 
@@ -167,10 +189,10 @@ module _ {n : ℕ} {t d bs w₀ : List ℕ} {s : Settings} (ready : QueryReady n
         has-candidates = subst (λ (vs : List ℕ). Candidates graph members vs) (sym candidates_are) (passing-candidates graph members)
 
         -- what `beaten` requires
-        pub beaten_asks : SearchFits n t d w₂ × Posed n t w₂ s y m
+        pub beaten_asks : (4 * n ≤ length w₂) × Posed graph w₂ s y m
         beaten_asks =
             let l = long in (
-              record { table = accepted.graph.fits; degrees-fit = accepted.graph.degrees-fit; degrees = accepted.graph.degrees; parts = omega arith },
+              omega arith,
               record {
                 set = members;
                 factor = accepted.factor;
@@ -189,7 +211,7 @@ module _ {n : ℕ} {t d bs w₀ : List ℕ} {s : Settings} (ready : QueryReady n
             )
 
         -- an isolated clique qualifies where it is not beaten
-        pub decide_beaten : isolated_of s y ≡ true → {w₃ : List ℕ} {r : Bool} → Tested n t w₂ w₃ s y m r → Decided graph bs w₀ w₃ (settings_of s) (not r)
+        pub decide_beaten : isolated_of s y ≡ true → {w₃ : List ℕ} {r : Bool} → Tested graph w₂ w₃ s y m r → Decided graph bs w₀ w₃ (settings_of s) (not r)
         decide_beaten isolated tested =
             record {
               answer =

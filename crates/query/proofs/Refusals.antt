@@ -1,19 +1,16 @@
 -- The refusals of a set query in their order, and what an accepted one has.
 -- Assumes nothing.
-use Prim.Native.Nat.{ℕ}
-use mathlib.Core.Path.{◌≡◌, sym, ◌∙◌}
-use mathlib.Core.Bool.{Bool}
-use mathlib.Core.List.{List}
-use mathlib.Core.Logic.{◌≢◌}
-use lib.ListN.{length}
+use Rattle.std.specs.Prelude.{ℕ, ◌≡◌, ◌≢◌, Bool, List, length}
+use Rattle.std.proofs.Common.{refl, sym, ◌∙◌}
 use Rattle.model.specs.Graph.{LentGraph}
 use Rattle.model.specs.Groups.{Settings}
 use Rattle.model.specs.Calls.{refuse, over, refuse_input, refuse_query}
 use Rattle.theory.proofs.Basics.Refusals.{else_none, else_found, else_passed}
 use Rattle.graph.specs.Table.{lent}
+use Rattle.graph.specs.declared.lent.Lent.{Lent}
 use Rattle.isolation.specs.declared.Settings as code
 use Rattle.isolation.specs.Numbers.{settings_of}
-use Rattle.input.proofs.Refusals.{InputPassed, input_passed}
+use Rattle.input.proofs.Refusals.{InputHeld, input_held}
 
 module _ (L : LentGraph) (s : Settings) (bs : List ℕ) (work : ℕ) where
   -- refused with one of 1 to 5, 42 and 6 to 10
@@ -22,11 +19,14 @@ module _ (L : LentGraph) (s : Settings) (bs : List ℕ) (work : ℕ) where
   query_input e d = e ∙ sym (else_found (λ z. d (e ∙ z)) _)
 
   -- by the set's bytes where none of these holds
-  pub query-bytes : {r : ℕ} → r ≡ refuse_input L s (length bs) work → r ≡ 0 → {d : Bool} → over 1 bs ≡ d → refuse 11 d 0 ≡ refuse_query L s bs work
+  pub query-bytes : 0 ≡ refuse_input L s (length bs) work → {d : Bool} → over 1 bs ≡ d → refuse 11 d 0 ≡ refuse_query L s bs work
   unfolding refuse_query
-  query-bytes e z o = sym (else_none (sym e ∙ z) _ ∙ rw o)
+  query-bytes e o = sym (else_none (sym e) _ ∙ rw o)
 
--- an accepted set query passes these
-pub query-accepted : (n : ℕ) (t d : List ℕ) (q : code.Settings) (bs : List ℕ) (work : ℕ) → refuse_query (lent n t d) (settings_of q) bs work ≡ 0 → InputPassed n t d q (length bs) work
+-- a set query that is accepted has a graph that is simple, a factor in range, a set of n bytes and a work slice that is long enough
+pub query-accepted : (l : Lent) (q : code.Settings) (bs : List ℕ) (work : ℕ) → refuse_query (lent l.table.n l.table.bytes.now l.degrees.now) (settings_of q) bs work ≡ 0
+    → InputHeld l q (length bs) work
 unfolding refuse_query
-query-accepted n t d q bs work h = input_passed n t d q (length bs) work (else_passed (refuse_input (lent n t d) (settings_of q) (length bs) work) _ h).0
+query-accepted l q bs work h =
+    input_held l (record { table = record { vertices = refl; bytes = refl }; degrees = refl })
+    (else_passed (refuse_input (lent l.table.n l.table.bytes.now l.degrees.now) (settings_of q) (length bs) work) _ h).0

@@ -1,24 +1,32 @@
 -- The set query's answer, and what its steps give.
 -- Assumes nothing.
-use Rattle.std.specs.Prelude.{ℕ, ◌≡◌, Bool, List, ◌≢◌, length}
+use Rattle.std.specs.Prelude.{ℕ, ◌≡◌, Bool, List, ◌≢◌, length, Result, Ok, Err}
 use Rattle.model.specs.Below.{bit}
 use Rattle.model.specs.Graph.{Graph, LentGraph}
 use Rattle.model.specs.Groups.{settings, qualifies}
 use Rattle.model.specs.Groups as groups
 use Rattle.model.specs.Calls.{by_bytes, refuse_query, answer_to}
+use Rattle.refusal.specs.declared.Refusal.{Refusal}
+use Rattle.refusal.specs.Numbers.{number}
 use Rattle.graph.specs.Table.{lent}
+use Rattle.graph.specs.declared.lent.Lent.{Lent}
 use Rattle.isolation.specs.declared.Settings.{Settings}
 use Rattle.query.specs.declared.SetAnswer.{SetAnswer}
 use Rattle.isolation.specs.Numbers.{settings_of}
 
 -- the call is accepted
-pub record QueryReady (n : ℕ) (t d bs w : List ℕ) (s : Settings) : Type 0 where
-  pub accepted : refuse_query (lent n t d) (settings_of s) bs (length w) ≡ 0
+pub record QueryReady (l : Lent) (bs w : List ℕ) (s : Settings) : Type 0 where
+  pub accepted : refuse_query (lent l.table.n l.table.bytes.now l.degrees.now) (settings_of s) bs (length w) ≡ 0
 
 -- whether the set qualifies, and the work slice as long as before
 pub record Decided (G : Graph) (bs before after : List ℕ) (s : groups.Settings) (r : Bool) : Type 0 where
   pub answer : r ≡ qualifies G s (by_bytes bs)
   pub length-kept : length after ≡ length before
+
+-- the answer of a set query that is accepted, and says whether the set qualifies, or refused
+abbrev pub answer_of : Result Bool Refusal → SetAnswer
+answer_of (Ok qualifies) = record { refusal = 0; yes = bit qualifies }
+answer_of (Err r) = record { refusal = number r; yes = 0 }
 
 -- Document 01, "One set, one text, one program" and "Turned back by the input", of a call that is lent a graph as L: the answer of `answer_to` of crate model as two numbers; the work slice
 -- keeps its length, and where the call is refused all that it holds. Its contents after acceptance are left open, as document 01 leaves them

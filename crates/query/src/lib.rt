@@ -1,73 +1,104 @@
 // The set query.
 #![tactic(auto)]
 
-ghost use Rattle.std.specs.Prelude.{◌≡◌};
+ghost use Rattle.std.specs.Prelude.{◌≡◌, IfOk};
 ghost use Rattle.model.specs.Calls.{refuse_query};
-ghost use Rattle.graph.specs.Table.{lent, graph_of};
+ghost use Rattle.refusal.specs.Numbers.{fault};
+ghost use Rattle.graph.specs.Table.{lent};
+ghost use Rattle.graph.specs.Held.{graph_in};
+ghost use Rattle.graph.specs.Given.{LentAs};
 ghost use Rattle.isolation.specs.Numbers.{settings_of};
-ghost use Rattle.query.specs.Query.{QueryReady, Decided, Answers};
+ghost use Rattle.query.specs.Query.{QueryReady, Decided, answer_of, Answers};
 
-use input::input_refusal;
-use isolation::{Settings, isolated_by};
+use graph::{Lent, any_over};
+use input::lent_input;
+use isolation::Settings;
 use larger::beaten;
 use members::{common_neighbours, members_of, pairwise_joined, tally_of};
+use refusal::Refusal;
 
 // The set query's answer: the refusal number, 0 where the call is accepted, and 1 for yes, 0 for no.
 #[repr(C)]
-#[derive(Drop)]
+#[derive(Clone, Copy, Debug, PartialEq, Eq)]
 pub struct SetAnswer {
     pub refusal: u32,
     pub yes: u32,
 }
 
-// The refusal number of a set query with a work slice of `length` entries: 1 to 5, 42 and 6 to 11 of document 01, "Turned back by the input", and document
-// 02, C-12, in this order, and 0 where all tests pass. Reads the table, the degrees and the set.
-fn query_refusal(
-    table: &[u8],
-    degrees: &[u16],
+// An accepted set query tells whether the set qualifies.
+impl From<Result<bool, Refusal>> for SetAnswer {
+    ghost from_gives = { λ r a. a ≡ answer_of r };
+
+    fn from(r: Result<bool, Refusal>) -> SetAnswer {
+        match r {
+            Ok(qualifies) => SetAnswer {
+                refusal: 0,
+                yes: u32::from(qualifies),
+            },
+            Err(refusal) => SetAnswer {
+                refusal: u32::from(refusal),
+                yes: 0,
+            },
+        }
+    }
+}
+
+// The graph on n vertices that a table and a list of degrees hold, for a set query with a work slice of `length` entries, or the refusal: 1 to 5, 42 and
+// 6 to 11 of document 01, "Turned back by the input", and document 02, C-12, in this order. Reads the table, the degrees and the set.
+fn lent_query<'a>(
+    table: &'a [u8],
+    degrees: &'a [u16],
     set: &[u8],
     length: usize,
     n: usize,
     s: Settings,
-) -> u32
-    ensures { result ≡ refuse_query (lent n table.now degrees.now) (settings_of s) set.now length }
+) -> Result<Lent<'a>, Refusal>
+    ensures refused { fault result ≡ refuse_query (lent n table.now degrees.now) (settings_of s) set.now length }
+    ensures held { IfOk result (LentAs n table.now degrees.now) }
 {
-    let of_input = input_refusal(table, degrees, n, s, set.len(), length);
-    if of_input != 0 {
-        return of_input;
+    let lent = lent_input(table, degrees, n, s, set.len(), length)?;
+    if any_over(1, set) {
+        return Err(Refusal::SetByte);
     }
-    if graph::any_over(1, set) {
-        return 11;
-    }
-    0
+    Ok(lent)
 }
 
 // Whether the set qualifies, where the call is not refused: document 002, definitions 1 and 2, a clique that is
 // isolated and that no larger one of its kind contains. Reads the table, the degrees and the set; writes parts 1 and 3 of work.
-fn set_qualifies(
+fn set_qualifies(lent: &Lent<'_>, set: &[u8], work: &mut [u16], s: Settings) -> bool
+    requires { QueryReady lent.now set.now work.old s }
+    ensures { Decided (graph_in lent.now.table) set.now work.old work.new (settings_of s) result }
+{
+    let n = lent.table.n;
+    let k = members_of(set, work);
+    if k == 0 {
+        return false; // the empty set is a no
+    }
+    let members = &work[n..n + k];
+    if !pairwise_joined(&lent.table, members) {
+        return false;
+    }
+    let y = tally_of(lent.degrees, members);
+    if !s.isolates(y) {
+        return false;
+    }
+    let m = common_neighbours(&lent.table, work, k);
+    !beaten(lent, work, s, y, m)
+}
+
+// Whether the set qualifies, or the refusal of the call. Reads the table, the degrees and the set; writes work only where the call is accepted.
+fn decide(
     table: &[u8],
     degrees: &[u16],
     set: &[u8],
     work: &mut [u16],
     n: usize,
     s: Settings,
-) -> bool
-    requires { QueryReady n table.now degrees.now set.now work.old s }
-    ensures { Decided (graph_of n table.now) set.now work.old work.new (settings_of s) result }
+) -> Result<bool, Refusal>
+    ensures { Answers (lent n table.now degrees.now) set.now work.old work.new s.notion s.kind s.factor (answer_of result) }
 {
-    let k = members_of(set, n, work);
-    if k == 0 {
-        return false; // the empty set is a no
-    }
-    if !pairwise_joined(table, n, work, k) {
-        return false;
-    }
-    let y = tally_of(degrees, n, work, k);
-    if !isolated_by(s, y) {
-        return false;
-    }
-    let m = common_neighbours(table, n, work, k);
-    !beaten(table, degrees, work, n, s, y, m)
+    let lent = lent_query(table, degrees, set, work.len(), n, s)?;
+    Ok(set_qualifies(&lent, set, work, s))
 }
 
 // The set query, for arguments of any length and contents: table, the degrees of its graph, set (n bytes, 1 for a member), a work slice, n, notion, kind
@@ -89,12 +120,5 @@ pub fn set_query(
         kind,
         factor: c,
     };
-    let refusal = query_refusal(table, degrees, set, work.len(), n, s);
-    if refusal != 0 {
-        return SetAnswer { refusal, yes: 0 };
-    }
-    if set_qualifies(table, degrees, set, work, n, s) {
-        return SetAnswer { refusal: 0, yes: 1 };
-    }
-    SetAnswer { refusal: 0, yes: 0 }
+    SetAnswer::from(decide(table, degrees, set, work, n, s))
 }

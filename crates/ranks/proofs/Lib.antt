@@ -1,5 +1,5 @@
 -- Counting by degree, the slices while they are filled by it, and what they then say.
-pub mod Counting
+pub mod ByDegree
 pub mod Starts
 pub mod Placed
 pub mod Ranks

@@ -1,2 +1,3 @@
 -- The slice of the rank order, and what fills it.
 pub mod Ranks
+pub mod Held

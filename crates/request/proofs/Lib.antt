@@ -1,3 +1,3 @@
--- The laws of what was read of the words and of the text.
+-- The laws of the words as they were read, and of what a text is judged to be.
 pub mod ReadWords
 pub mod JudgedText

@@ -1,36 +1,40 @@
 -- What the readers of the program's words promise. Assumes nothing.
-use Rattle.std.specs.Prelude.{ℕ, ◌<◌, ◌≡◌, Bool, true, false, ◌⊎◌, List, [], ◌∷◌, length}
+use Rattle.std.specs.Prelude.{ℕ, ◌<◌, ◌≡◌, Bool, true, false, ◌⊎◌, List, [], ◌∷◌, length, Result, Ok, Err, MatchResult, IfOk}
+use Rattle.std.proofs.Math.Option as math
 use Rattle.model.specs.Calls.{refuse_settings}
 use Rattle.model.specs.Program as program
+use Rattle.refusal.specs.declared.Refusal.{Refusal}
+use Rattle.refusal.specs.declared.Refusal.TheVariants.{Form}
+use Rattle.refusal.specs.Numbers.{number}
+use Rattle.isolation.specs.declared.Settings.{Settings}
 use Rattle.isolation.specs.Numbers.{settings_of}
-use Rattle.request.specs.declared.words.Words.{Words}
-use Rattle.request.specs.declared.words.Words.TheVariants.{Wrong, Chosen}
+use Rattle.request.specs.declared.words.Arguments.{Arguments}
+
+-- a word is read as the definition says, or refused for its form
+abbrev pub NumberIn : math.Option ℕ → Result ℕ Refusal → Type 0
+NumberIn wanted r = MatchResult r (λ m. math.some m ≡ wanted) (λ e. (e ≡ Form) × (math.none ≡ wanted))
 
 -- a refusal's number or the settings, as the definition has them
-abbrev pub words_of : Words → program.Words
-words_of (Wrong k) = program.wrong k
-words_of (Chosen s) = program.chosen (settings_of s)
+abbrev pub words_of : Result Settings Refusal → program.Words
+words_of (Err r) = program.wrong (number r)
+words_of (Ok s) = program.chosen (settings_of s)
 
--- chosen settings have no fault
-abbrev pub Proper : Words → Type 0
-Proper (Wrong k) = Unit {0}
-Proper (Chosen s) = refuse_settings (settings_of s) ≡ 0
-
--- any words of this count, which are a, b and c where they are three, say what the definition says
-pub record WordsRead (count : ℕ) (a b c : List ℕ) (r : Words) : Type 0 where
-  pub says : (words : List (List ℕ)) → length words ≡ count → (count ≡ 3 → words ≡ a ∷ b ∷ c ∷ []) → words_of r ≡ program.settings_of_words words
-  pub proper : Proper r
+-- any words of this count, which are those that are handed over where they are three, say what the definition says; chosen settings have no fault
+pub record WordsRead (w : Arguments) (r : Result Settings Refusal) : Type 0 where
+  pub says : (words : List (List ℕ)) → length words ≡ w.count → (w.count ≡ 3 → words ≡ w.first.now ∷ w.second.now ∷ w.third.now ∷ [])
+      → words_of r ≡ program.settings_of_words words
+  pub proper : IfOk r (λ s. refuse_settings (settings_of s) ≡ 0)
 
 -- a word as a buffer of 8 bytes holds it: itself, or nothing where it is longer
 abbrev pub Held : List ℕ → List ℕ → Type 0
 Held word a = (a ≡ word) ⊎ ((8 < length word) × (a ≡ []))
 
--- the program's words, of which the first three stand in a, b and c
-pub record Handed (words : List (List ℕ)) (count : ℕ) (a b c : List ℕ) : Type 0 where
-  pub counted : length words ≡ count
-  pub first : (x y z : List ℕ) → words ≡ x ∷ y ∷ z ∷ [] → Held x a
-  pub second : (x y z : List ℕ) → words ≡ x ∷ y ∷ z ∷ [] → Held y b
-  pub third : (x y z : List ℕ) → words ≡ x ∷ y ∷ z ∷ [] → Held z c
+-- the program's words, of which the first three are handed over
+pub record Handed (words : List (List ℕ)) (w : Arguments) : Type 0 where
+  pub counted : length words ≡ w.count
+  pub first : (x y z : List ℕ) → words ≡ x ∷ y ∷ z ∷ [] → Held x w.first.now
+  pub second : (x y z : List ℕ) → words ≡ x ∷ y ∷ z ∷ [] → Held y w.second.now
+  pub third : (x y z : List ℕ) → words ≡ x ∷ y ∷ z ∷ [] → Held z w.third.now
 
 -- the words pass
 abbrev pub passes : program.Words → Bool
@@ -38,5 +42,5 @@ passes (program.wrong k) = false
 passes (program.chosen s) = true
 
 -- the text is wanted exactly where the words pass
-abbrev pub TextWanted : ℕ → List ℕ → List ℕ → List ℕ → Bool → Type 0
-TextWanted count a b c r = (words : List (List ℕ)) → Handed words count a b c → r ≡ passes (program.settings_of_words words)
+abbrev pub TextWanted : Arguments → Bool → Type 0
+TextWanted w r = (words : List (List ℕ)) → Handed words w → r ≡ passes (program.settings_of_words words)

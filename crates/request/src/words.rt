@@ -1,55 +1,54 @@
 // The program's words: notion, kind and factor.
-ghost use Rattle.request.specs.Words.{WordsRead, TextWanted};
+ghost use Rattle.model.specs.Text.{number_of};
+ghost use Rattle.request.specs.Words.{NumberIn, WordsRead, TextWanted};
 
 use isolation::Settings;
-use number::{Field, number};
+use refusal::Refusal;
 
-// What the words say: a refusal, by its number, or the settings.
-#[derive(Drop)]
-pub enum Words {
-    Wrong(u32),
-    Chosen(Settings),
+// The program's words as the kit hands them over: how many there are, and the first three. With another count these may be anything.
+#[derive(Clone, Copy)]
+pub struct Arguments<'a> {
+    pub count: usize,
+    pub first: &'a [u8],
+    pub second: &'a [u8],
+    pub third: &'a [u8],
 }
 
-// The settings of three words, or their refusal: 32 their count and the form of a number, then 6, 7, 8. With another count the words
-// themselves may be anything.
-pub fn settings_of(count: usize, a: &[u8], b: &[u8], c: &[u8]) -> Words
-    ensures { WordsRead count a.now b.now c.now result }
+// Notion, kind and factor.
+const WORDS: usize = 3;
+
+// The number that a word is: 32 where it has not the form of one.
+fn number_in(word: &[u8]) -> Result<u32, Refusal>
+    ensures { NumberIn (number_of word.now) result }
 {
-    if count != 3 {
-        return Words::Wrong(32);
-    }
-    let Field::Number(notion) = number(a) else {
-        return Words::Wrong(32);
-    };
-    let Field::Number(kind) = number(b) else {
-        return Words::Wrong(32);
-    };
-    let Field::Number(factor) = number(c) else {
-        return Words::Wrong(32);
-    };
-    let s = Settings {
-        notion: notion as u32,
-        kind: kind as u32,
-        factor: factor as u32,
-    };
-    let refusal = isolation::settings_refusal(s);
-    if refusal != 0 {
-        return Words::Wrong(refusal);
-    }
-    Words::Chosen(s)
+    let n = number::number(word).ok_or(Refusal::Form)?;
+    Ok(n as u32)
 }
 
-// Whether the text decides: the words pass. Where they are refused nothing is read.
-pub fn wants_text(count: usize, a: &[u8], b: &[u8], c: &[u8]) -> bool
-    ensures { TextWanted count a.now b.now c.now result }
-{
-    match settings_of(count, a, b, c) {
-        Words::Wrong(_) => {
-            return false;
+impl Arguments<'_> {
+    // The settings of three words, or their refusal: 32 their count and the form of a number, then 6, 7, 8.
+    pub fn settings(&self) -> Result<Settings, Refusal>
+        ensures { WordsRead self.now result }
+    {
+        if self.count != WORDS {
+            return Err(Refusal::Form);
         }
-        Words::Chosen(_) => {
-            return true;
-        }
+        let notion = number_in(self.first)?;
+        let kind = number_in(self.second)?;
+        let factor = number_in(self.third)?;
+        let s = Settings {
+            notion,
+            kind,
+            factor,
+        };
+        s.check()?;
+        Ok(s)
+    }
+
+    // Whether the text decides: the words pass. Where they are refused nothing is read.
+    pub fn wants_text(&self) -> bool
+        ensures { TextWanted self.now result }
+    {
+        self.settings().is_ok()
     }
 }

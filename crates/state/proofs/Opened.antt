@@ -170,20 +170,3 @@ module _ {G : Graph} (p : Position) {w : List ℕ} {s : State} (St : Stands G (r
 -- no byte is over the bound
 pub bytes_most : (m : ℕ) (p : Position) → over m p ≡ false → (r : ℕ) → r < length p → get_or p r 0 ≤ m
 bytes_most m p e r h = ⊎_elim (λ l. absurd (true≢false (sym ((over_test m p).1 (r, h, l)) ∙ e))) (λ l. l) (lt_or_ge m (get_or p r 0))
-
--- ---- ranks opened one after the other
-
-pub cleared-none : (a : ℕ) (p : Position) → RanksOpened a a p p
-cleared-none a p = record { same_length = refl; cleared = λ r x y. absurd (omega arith); below = λ r x. refl; above = λ r x. refl }
-
-pub cleared_more : {a i : ℕ} {p q : Position} → RanksOpened a i p q → a ≤ i → i < length q → RanksOpened a (i + 1) p (set q i 0)
-cleared_more {a} {i} {p} {q} C h l =
-    record {
-      same_length = length-set q i 0 ∙ C.same_length;
-      cleared = λ r x y.
-          last_or_below {n = i} {i = r} (omega arith)
-          (λ e. ap (λ (j : ℕ). get_or (set q i 0) j 0) e ∙ get_or-set_same q i 0 0 l)
-          (λ b. get_or-set_other q i r 0 0 (λ z. omega arith) ∙ C.cleared r x b);
-      below = λ r x. get_or-set_other q i r 0 0 (λ z. omega arith) ∙ C.below r x;
-      above = λ r x. get_or-set_other q i r 0 0 (λ z. omega arith) ∙ C.above r (omega arith);
-    }

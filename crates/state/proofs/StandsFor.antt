@@ -3,11 +3,13 @@
 use Prim.Native.Nat.{ℕ, ◌+◌, ◌*◌, ◌≤◌, ◌<◌}
 use mathlib.Core.Path.{◌≡◌, refl, sym, ap, ap₂, ◌∙◌}
 use mathlib.Core.Bool.{Bool, true, false, ◌&&◌, not, or-false}
-use mathlib.Core.List.{List}
+use mathlib.Core.List.{List, ◌++◌}
 use mathlib.Core.Logic.{⊎_elim}
 use native.Mathlib.Nat.{add-zero}
 use native.Mathlib.Omega.{arith}
-use lib.ListN.{length, get_or}
+use lib.ListN.{length, get_or, take, drop, length-append, length-drop}
+use lib.Seq.{take-append_seam}
+use Rattle.std.proofs.lemmas.List.{length-take-le}
 use lib.Dec.{eqb}
 use borrow.Author.Tests.{eq-eqb, ne_eqb}
 use Rattle.model.specs.Graph.{Graph, vertex_at}
@@ -21,12 +23,20 @@ use Rattle.theory.proofs.Basics.Passing.{map_at}
 use Rattle.theory.proofs.Basics.PassingParts.{passing-count}
 use Rattle.theory.proofs.Graph.Ranks.{vertex_at_lem}
 use Rattle.theory.proofs.Walk.Moves.{has-found, has-none, finished-is}
-use Rattle.graph.specs.Table.{graph_of}
-use Rattle.graph.proofs.Table.{table-degree}
-use Rattle.ranks.specs.Ranks.{HoldsRanks}
+use Rattle.theory.proofs.Graph.Degrees.{degree_le}
 use Rattle.state.specs.State.{taken_ranks, left_of_pivot, left_ranks, Stands, Copied}
 use Rattle.state.specs.declared.State.{State}
 use Rattle.state.proofs.Taken.{taken_list_lem, taken-length, taken_at, taken-has, untaken_has, pivot-first, apart_none, degrees-bound}
+
+-- what the first k entries are copied onto has them, and keeps its length
+pub copied_part : {k : ℕ} (from before : List ℕ) {front : List ℕ} → k ≤ length from → k ≤ length before → front ≡ take k from → Copied k from before (front ++ drop k before)
+copied_part {k} from before {front} h l e =
+    let long : length (take k from) ≡ k = length-take-le k from h in
+    rw e
+    (record {
+      front = ap (λ (m : ℕ). take m (take k from ++ drop k before)) (sym long) ∙ take-append_seam (take k from) (drop k before);
+      length-kept = simp (length-append, length-drop) (omega (arith, long));
+    })
 
 -- ---- how many entries the parts have, and which
 
@@ -189,14 +199,13 @@ module _ {G : Graph} {p : Position} {w : List ℕ} {s : State} (St : Stands G p 
   unfolding dead
   dead_by_left q h e = rw (sym St.apart ∙ e, has-taken h, left_is h)
 
--- ---- for the graph of a table
+-- ---- in a graph of document 01's size
 
 -- the sum of the degrees of the taken vertices is small
-pub sum-small : {n : ℕ} {t degrees order : List ℕ} → HoldsRanks n t degrees order → {p : Position} {w : List ℕ} {s : State} → Stands (graph_of n t) p w s → s.sum ≤ 1048576
-sum-small {n} {t} R {p} {w} {s} St =
-    let g = R.ordered.fits.small in
-    let a = degrees-bound (graph_of n t) 1024 (λ v. omega (arith, table-degree n t v)) (taken_list (graph_of n t) p) in
-    let b = taken-length (graph_of n t) p ∙ taken-count (graph_of n t) p w s St in
+pub sum-small : {G : Graph} → G.size ≤ 1024 → {p : Position} {w : List ℕ} {s : State} → Stands G p w s → s.sum ≤ 1048576
+sum-small {G} g {p} {w} {s} St =
+    let a = degrees-bound G 1024 (λ v. omega (arith, degree_le G v)) (taken_list G p) in
+    let b = taken-length G p ∙ taken-count G p w s St in
     let c = St.sum in
     let d = St.taken-bound in
     let e = St.bound in

@@ -3,8 +3,7 @@
 use Rattle.std.specs.Prelude.{ℕ, ◌+◌, ◌≤◌, ◌<◌, ◌≡◌, List, length, get_or}
 use Rattle.model.specs.Graph.{Graph}
 use Rattle.model.specs.Walk.{Position}
-use Rattle.graph.specs.Table.{TableFits}
-use Rattle.theory.specs.Parts.{part, members_at, left_ranks_at, candidates_at, HoldsVertices, Kept}
+use Rattle.theory.specs.Parts.{part, left_ranks_at, candidates_at, Kept}
 use Rattle.state.specs.State.{left_ranks, Stands}
 use Rattle.state.specs.declared.State.{State}
 
@@ -20,13 +19,6 @@ pub record Decides (d x : ℕ) (p q : Position) : Type 0 where
 pub record Pushed (G : Graph) (x : ℕ) (w : List ℕ) (s : State) (w₂ : List ℕ) (s₂ : State) : Type 0 where
   pub stands : (p q : Position) → Stands G p w s → Decides s.decided x p q → Stands G q w₂ s₂
   pub next : s₂.decided ≡ s.decided + 1
-
--- the first k entries of part 1 are vertices, and so is v
-pub record Misses (n : ℕ) (t w : List ℕ) (k v : ℕ) : Type 0 where
-  pub fits : TableFits n t
-  pub room : members_at n + k ≤ length w
-  pub vertices : HoldsVertices n w (members_at n) k
-  pub vertex : v < n
 
 -- As the next rank is taken: part 2 holds the m left neighbours of the pivot of every position that then has it taken, and all else is as it was.
 pub record LeftOnceTaken (G : Graph) (w : List ℕ) (s : State) (w₂ : List ℕ) (m : ℕ) : Type 0 where

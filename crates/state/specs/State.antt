@@ -1,6 +1,6 @@
 -- How the state of a page stands for a position: the one invariant of its functions.
 -- Assumes nothing.
-use Rattle.std.specs.Prelude.{ℕ, ◌+◌, ◌*◌, ◌≤◌, ◌<◌, ◌≡◌, Bool, ◌&&◌, ◌≢◌, List, [], ◌∷◌, length, get_or, take}
+use Rattle.std.specs.Prelude.{ℕ, ◌+◌, ◌*◌, ◌≤◌, ◌<◌, ◌≡◌, Bool, false, ◌&&◌, ◌≢◌, List, [], ◌∷◌, length, get_or, take}
 use Rattle.model.specs.Below.{passing}
 use Rattle.model.specs.Graph.{Graph, degree}
 use Rattle.theory.specs.Parts.{part, taken_ranks_at, members_at, left_ranks_at}
@@ -44,6 +44,10 @@ pub record Stands (G : Graph) (p : Position) (w : List ℕ) (s : State) : Type 0
   pub sum : s.sum ≡ degrees_of G (taken_list G p)
   pub apart : s.apart ≡ apart G p
 
+-- the state of the fresh position: nothing is decided
+abbrev pub fresh : State
+fresh = record { decided = 0; taken = 0; left = 0; sum = 0; apart = false }
+
 -- the first k entries are those of another slice, and the length stays
 pub record Copied (k : ℕ) (from before after : List ℕ) : Type 0 where
   pub front : take k after ≡ take k from
@@ -57,6 +61,6 @@ StandsForOne G w s = (p : Position) × Stands G p w s
 abbrev pub SaysFinished : ℕ → State → Bool → Type 0
 SaysFinished n s b = (G : Graph) (p : Position) (w : List ℕ) → G.size ≡ n → Stands G p w s → b ≡ finished p
 
--- what `is_dead` says of every position for which the state and the work slice stand: whether the rules of the settings have it dead
-abbrev pub SaysDead : Settings → List ℕ → State → Bool → Type 0
-SaysDead q w s b = (G : Graph) (p : Position) → Stands G p w s → b ≡ (rules G (settings_of q)).dead p
+-- what `is_dead` says of every position for which the state stands: whether the rules of the settings have it dead
+abbrev pub SaysDead : Settings → State → Bool → Type 0
+SaysDead q s b = (G : Graph) (p : Position) (w : List ℕ) → Stands G p w s → b ≡ (rules G (settings_of q)).dead p

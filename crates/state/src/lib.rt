@@ -2,20 +2,25 @@
 // rank that is decided, and at nothing else of the position.
 #![tactic(auto)]
 
-ghost use Rattle.std.specs.Prelude.{◌≡◌, false, ◌||◌, not, ◌+◌, ◌-◌, ◌*◌, ◌≤◌, ◌<◌, length, get_or};
+ghost use Rattle.std.specs.Prelude.{◌≡◌, false, not, ◌+◌, ◌-◌, ◌*◌, ◌≤◌, ◌<◌, length, get_or};
+ghost use Rattle.std.specs.List.{All};
 ghost use Rattle.model.specs.Below.{any, least};
 ghost use Rattle.model.specs.Listing.{is};
 ghost use Rattle.model.specs.Calls.{over, gap, reopened};
-ghost use Rattle.theory.specs.Parts.{members_at};
-ghost use Rattle.graph.specs.Table.{graph_of};
-ghost use Rattle.ranks.specs.Ranks.{OrderOf, HoldsRanks};
+ghost use Rattle.graph.specs.Held.{graph_in};
+ghost use Rattle.ranks.specs.Held.{ordered_graph, ranked_graph};
 ghost use Rattle.isolation.specs.Numbers.{FactorFits};
-ghost use Rattle.state.specs.State.{Stands, StandsForOne, SaysFinished, SaysDead, Copied};
-ghost use Rattle.state.specs.NextRank.{Pushed, Misses, LeftOnceTaken};
+ghost use Rattle.state.specs.State.{Stands, StandsForOne, SaysFinished, SaysDead, fresh};
+ghost use Rattle.state.specs.NextRank.{Pushed, LeftOnceTaken};
 
-use graph::{degree_at, entry_at, joined};
-use isolation::{Settings, within};
-use ranks::vertex_at;
+use graph::Table;
+use isolation::Settings;
+use ranks::{Ordered, Ranked};
+
+// The bytes of a position, document 01, "The walk": an open rank, and a taken one.
+const OPEN: u8 = 0;
+
+const TAKEN: u8 = 1;
 
 // What a page keeps beside the position and the work slice: how many ranks are decided, how many of them are taken, how many neighbours of the
 // pivot are left, the sum of the taken vertices' degrees, and whether two taken ranks are not adjacent.
@@ -28,241 +33,174 @@ pub struct State {
     pub apart: bool,
 }
 
-// Whether a or b holds.
-fn either(a: bool, b: bool) -> bool
-    ensures { result ≡ (a || b) }
+// Whether some of the vertices is not joined to v. Reads them from the last, up to one that is not.
+fn misses_one(table: &Table, vertices: &[u16], v: usize) -> bool
+    requires { All (λ u. u < table.now.n) vertices.now × (v < table.now.n) }
+    ensures { result ≡ any (length vertices.now) (λ j. not ((graph_in table.now).joined (get_or vertices.now j 0) v)) }
 {
-    if a {
-        return true;
-    }
-    b
-}
-
-// Whether the walk is finished. Document 01, "The walk": finished is all 2, so all ranks are decided and nothing is taken.
-pub fn finished(s: State, n: usize) -> bool
-    ensures { SaysFinished n s result }
-{
-    let d = s.decided;
-    let taken = s.taken;
-    if d < n {
-        return false;
-    }
-    taken == 0
-}
-
-// Whether the position is dead. Document 01, "The walk": two taken ranks are not adjacent, or something is taken and at least c neighbours of the
-// pivot are left. The pivot has the least outside count of a clique, so then no notion of document 002, section 2.1, can hold. Reads the factor of the settings, and
-// nothing of the work slice.
-pub fn is_dead(s: State, q: Settings, work: &[u16]) -> bool
-    requires { FactorFits q }
-    ensures { SaysDead q work.now s result }
-{
-    let apart = s.apart;
-    let k = s.taken;
-    let m = s.left;
-    if apart {
-        return true;
-    }
-    if k == 0 {
-        return false;
-    }
-    !within(q, 1, m)
-}
-
-// Whether some of the first k vertices of part 1 is not joined to v. Reads them from the last, up to one that is not.
-fn misses_one(table: &[u8], n: usize, work: &[u16], k: usize, v: usize) -> bool
-    requires { Misses n table.now work.now k v }
-    ensures { result ≡ any k (λ j. not ((graph_of n table.now).joined (get_or work.now (members_at n + j) 0) v)) }
-{
-    let mut j = k;
-    while 0 < j {
-        let last = j - 1;
-        let u = entry_at(work, n + last);
-        if !joined(table, n, u, v) {
+    let k = vertices.len();
+    for i in 0..k {
+        let u = usize::from(vertices[k - 1 - i]);
+        if !table.joined(u, v) {
             return true;
         }
-        j = last;
     }
     false
 }
 
-// How many neighbours of the pivot are left once the next rank, d, is taken; part 2 of work then holds them, lowest first. Document 01, "Graph and
-// ranks", after documents 000, section 2, and 002, section 2.2: the pivot is the member of lowest rank, one of least degree. So it stays where something is taken. Else it
-// is d, and the ranks below d, which are all left, are looked through once.
-fn left_once_taken(s: State, table: &[u8], order: &[u16], n: usize, work: &mut [u16]) -> usize
-    requires { OrderOf n table.now order.now × StandsForOne (graph_of n table.now) work.old s × (s.decided < n) }
-    ensures { LeftOnceTaken (graph_of n table.now) work.old s work.new result }
-{
-    let d = s.decided;
-    let k = s.taken;
-    if 0 < k {
-        return s.left;
-    }
-    let v = vertex_at(order, n, d);
-    let mut m: usize = 0;
-    let mut i = 0;
-    while i < d {
-        let u = vertex_at(order, n, i);
-        if joined(table, n, v, u) {
-            work[2 * n + m] = i as u16;
-            m += 1;
+impl State {
+    // The state of the fresh position, in which nothing is decided.
+    pub fn fresh() -> State
+        ensures { result ≡ fresh }
+    {
+        State {
+            decided: 0,
+            taken: 0,
+            left: 0,
+            sum: 0,
+            apart: false,
         }
-        i += 1;
     }
-    m
-}
 
-// The state with the next rank taken: its vertex is tested against the taken ones. Does not touch the position.
-pub fn push_taken(
-    s: State,
-    table: &[u8],
-    degrees: &[u16],
-    order: &[u16],
-    n: usize,
-    work: &mut [u16],
-) -> State
-    requires { HoldsRanks n table.now degrees.now order.now × StandsForOne (graph_of n table.now) work.old s × (s.decided < n) }
-    ensures { Pushed (graph_of n table.now) 1 work.old s work.new result }
-{
-    let d = s.decided;
-    let k = s.taken;
-    let v = vertex_at(order, n, d);
-    let degree = degree_at(degrees, n, v);
-    let apart = either(s.apart, misses_one(table, n, work, k, v));
-    let left = left_once_taken(s, table, order, n, work);
-    let sum = s.sum + degree;
-    work[k] = d as u16;
-    work[n + k] = v as u16;
-    State {
-        decided: d + 1,
-        taken: k + 1,
-        left,
-        sum,
-        apart,
+    // Whether the walk is finished. Document 01, "The walk": finished is all 2, so all ranks are decided and nothing is taken.
+    pub fn finished(self, n: usize) -> bool
+        ensures { SaysFinished n self result }
+    {
+        n <= self.decided && self.taken == 0
     }
-}
 
-// The state with the next rank left: a neighbour of the pivot goes onto part 2. Does not touch the position.
-pub fn push_left(s: State, table: &[u8], order: &[u16], n: usize, work: &mut [u16]) -> State
-    requires { OrderOf n table.now order.now × StandsForOne (graph_of n table.now) work.old s × (s.decided < n) }
-    ensures { Pushed (graph_of n table.now) 2 work.old s work.new result }
-{
-    let d = s.decided;
-    let k = s.taken;
-    let m = s.left;
-    if k == 0 {
-        return State {
+    // Whether the position is dead. Document 01, "The walk": two taken ranks are not adjacent, or something is taken and at least c neighbours of the
+    // pivot are left. The pivot has the least outside count of a clique, so then no notion of document 002, section 2.1, can hold. Reads the factor of
+    // the settings.
+    pub fn is_dead(self, q: Settings) -> bool
+        requires { FactorFits q }
+        ensures { SaysDead q self result }
+    {
+        if self.apart {
+            return true;
+        }
+        if self.taken == 0 {
+            return false;
+        }
+        !q.within(1, self.left)
+    }
+
+    // How many neighbours of the pivot are left once the next rank, d, is taken; part 2 of work then holds them, lowest first. Document 01, "Graph and
+    // ranks", after documents 000, section 2, and 002, section 2.2: the pivot is the member of lowest rank, one of least degree. So it stays where
+    // something is taken. Else it is d, and the ranks below d, which are all left, are looked through once.
+    fn left_once_taken(self, g: &Ordered, work: &mut [u16]) -> usize
+        requires { StandsForOne (ordered_graph g.now) work.old self × (self.decided < g.now.table.n) }
+        ensures { LeftOnceTaken (ordered_graph g.now) work.old self work.new result }
+    {
+        if 0 < self.taken {
+            return self.left;
+        }
+        let d = self.decided;
+        let v = g.vertex_at(d);
+        let start = 2 * g.table.n;
+        let mut m: usize = 0;
+        for i in 0..d {
+            let u = g.vertex_at(i);
+            if g.table.joined(v, u) {
+                work[start + m] = i as u16;
+                m += 1;
+            }
+        }
+        m
+    }
+
+    // The state with the next rank taken: its vertex is tested against the taken ones. Does not touch the position.
+    pub fn push_taken(self, g: &Ranked, work: &mut [u16]) -> State
+        requires { StandsForOne (ranked_graph g.now) work.old self × (self.decided < g.now.ordered.table.n) }
+        ensures { Pushed (ranked_graph g.now) 1 work.old self work.new result }
+    {
+        let n = g.ordered.table.n;
+        let d = self.decided;
+        let k = self.taken;
+        let v = g.ordered.vertex_at(d);
+        let degree = g.degree(v);
+        let end = n + k;
+        let apart = self.apart | misses_one(&g.ordered.table, &work[n..end], v);
+        let left = self.left_once_taken(&g.ordered, work);
+        work[k] = d as u16;
+        work[end] = v as u16;
+        State {
             decided: d + 1,
-            taken: s.taken,
-            left: s.left,
-            sum: s.sum,
-            apart: s.apart,
-        };
+            taken: k + 1,
+            left,
+            sum: self.sum + degree,
+            apart,
+        }
     }
-    let p = entry_at(work, n);
-    let v = vertex_at(order, n, d);
-    if joined(table, n, p, v) {
-        work[2 * n + m] = d as u16;
-        return State {
+
+    // The state with the next rank left: a neighbour of the pivot goes onto part 2. Does not touch the position.
+    pub fn push_left(self, g: &Ordered, work: &mut [u16]) -> State
+        requires { StandsForOne (ordered_graph g.now) work.old self × (self.decided < g.now.table.n) }
+        ensures { Pushed (ordered_graph g.now) 2 work.old self work.new result }
+    {
+        let n = g.table.n;
+        let d = self.decided;
+        let m = self.left;
+        let passed = State {
             decided: d + 1,
-            taken: s.taken,
-            left: m + 1,
-            sum: s.sum,
-            apart: s.apart,
+            ..self
         };
+        if self.taken == 0 {
+            return passed;
+        }
+        let p = usize::from(work[n]);
+        let v = g.vertex_at(d);
+        if g.table.joined(p, v) {
+            work[2 * n + m] = d as u16;
+            return State {
+                left: m + 1,
+                ..passed
+            };
+        }
+        passed
     }
-    State {
-        decided: d + 1,
-        taken: s.taken,
-        left: s.left,
-        sum: s.sum,
-        apart: s.apart,
-    }
-}
 
-// The state with the next rank decided as the mark says. Document 01, "The walk": 1 is taken and 2 is left.
-fn push(
-    s: State,
-    mark: u8,
-    table: &[u8],
-    degrees: &[u16],
-    order: &[u16],
-    n: usize,
-    work: &mut [u16],
-) -> State
-    requires { HoldsRanks n table.now degrees.now order.now × StandsForOne (graph_of n table.now) work.old s × (s.decided < n) × (0 < mark) × (mark ≤ 2) }
-    ensures { Pushed (graph_of n table.now) mark work.old s work.new result }
-{
-    if mark == 1 {
-        return push_taken(s, table, degrees, order, n, work);
+    // The state with the next rank decided as the mark says. Document 01, "The walk": 1 is taken and 2 is left.
+    fn push(self, mark: u8, g: &Ranked, work: &mut [u16]) -> State
+        requires { StandsForOne (ranked_graph g.now) work.old self × (self.decided < g.now.ordered.table.n) × (0 < mark) × (mark ≤ 2) }
+        ensures { Pushed (ranked_graph g.now) mark work.old self work.new result }
+    {
+        if mark == TAKEN {
+            return self.push_taken(g, work);
+        }
+        self.push_left(&g.ordered, work)
     }
-    push_left(s, table, order, n, work)
-}
 
-// The state of a position that passes refusals 21 and 22, with its last decided rank opened; `upto` is that rank, and 0 where all are open. Goes once
-// through the ranks below it, and writes the work slice alone.
-pub fn rebuild(
-    table: &[u8],
-    degrees: &[u16],
-    order: &[u16],
-    n: usize,
-    position: &[u8],
-    upto: usize,
-    work: &mut [u16],
-) -> State
-    requires { HoldsRanks n table.now degrees.now order.now × (length position.now ≡ n) × (8 * n ≤ length work.old) × (over 2 position.now ≡ false) × (gap position.now ≡ false) × (upto ≡ least (length position.now) (is 0 position.now) - 1) }
-    ensures { Stands (graph_of n table.now) (reopened position.now) work.new result }
-{
-    let mut s = State {
-        decided: 0,
-        taken: 0,
-        left: 0,
-        sum: 0,
-        apart: false,
-    };
-    while s.decided < upto {
-        let d = s.decided;
+    // The state of a position that passes refusals 21 and 22, with its last decided rank opened; `upto` is that rank, and 0 where all are open. Goes once
+    // through the ranks below it, and writes the work slice alone.
+    pub fn rebuild(g: &Ranked, position: &[u8], upto: usize, work: &mut [u16]) -> State
+        requires { (length position.now ≡ g.now.ordered.table.n) × (8 * g.now.ordered.table.n ≤ length work.old) × (over 2 position.now ≡ false) × (gap position.now ≡ false) × (upto ≡ least (length position.now) (is 0 position.now) - 1) }
+        ensures { Stands (ranked_graph g.now) (reopened position.now) work.new result }
+    {
+        let mut s = State::fresh();
+        for d in 0..upto {
+            s = s.push(position[d], g, work);
+        }
+        s
+    }
+
+    // The state of a position, from the state that stands for it with its last decided rank opened: its three parts go from `memory` into the work slice,
+    // and that rank, which comes next, is decided as the position has it. A fresh position has none.
+    pub fn go_on(self, g: &Ranked, position: &[u8], memory: &[u16], work: &mut [u16]) -> State
+        requires { Stands (ranked_graph g.now) (reopened position.now) memory.now self × (8 * g.now.ordered.table.n ≤ length work.old) × (over 2 position.now ≡ false) }
+        ensures { Stands (ranked_graph g.now) position.now work.new result }
+    {
+        let n = g.ordered.table.n;
+        let d = self.decided;
+        let end = 3 * n;
+        work[..end].copy_from_slice(&memory[..end]);
+        if d == n {
+            return self;
+        }
         let mark = position[d];
-        s = push(s, mark, table, degrees, order, n, work);
+        if mark == OPEN {
+            return self;
+        }
+        self.push(mark, g, work)
     }
-    s
-}
-
-// The first k entries of `to` become those of `from`.
-fn copy(from: &[u16], to: &mut [u16], k: usize)
-    requires { (k ≤ length from.now) × (k ≤ length to.old) }
-    ensures { Copied k from.now to.old to.new }
-{
-    let mut i = 0;
-    while i < k {
-        to[i] = from[i];
-        i += 1;
-    }
-}
-
-// The state of a position, from the state that stands for it with its last decided rank opened: its three parts go from `memory` into the work slice,
-// and that rank, which comes next, is decided as the position has it. A fresh position has none.
-pub fn go_on(
-    s: State,
-    table: &[u8],
-    degrees: &[u16],
-    order: &[u16],
-    n: usize,
-    position: &[u8],
-    memory: &[u16],
-    work: &mut [u16],
-) -> State
-    requires { HoldsRanks n table.now degrees.now order.now × Stands (graph_of n table.now) (reopened position.now) memory.now s × (8 * n ≤ length work.old) × (over 2 position.now ≡ false) }
-    ensures { Stands (graph_of n table.now) position.now work.new result }
-{
-    let d = s.decided;
-    copy(memory, work, 3 * n);
-    if d == n {
-        return s;
-    }
-    let mark = position[d];
-    if mark == 0 {
-        return s;
-    }
-    push(s, mark, table, degrees, order, n, work)
 }

@@ -16,7 +16,7 @@ use Rattle.model.specs.Walk.{Position, has, fresh, retreat}
 use Rattle.model.specs.Listing.{is, pivot, apart, taken_list}
 use Rattle.model.specs.Calls.{reopened}
 use Rattle.theory.proofs.Basics.Tests.{fails, count_le, lt_or_ge, trichotomy}
-use Rattle.theory.proofs.Basics.Parts.{part_length, part-take, part_pop}
+use Rattle.theory.proofs.Basics.Parts.{part_length, part_at, part-take, part_pop}
 use Rattle.theory.proofs.Basics.PassingParts.{passing-same, passing-below, passing-next, passing-count, passing-last, passing-cut, least_above}
 use Rattle.theory.proofs.Calls.DeadPosition.{below-pivot}
 use Rattle.theory.proofs.Walk.Moves.{retreat-is}
@@ -198,7 +198,7 @@ module _ {G : Graph} {p : Position} {w : List ℕ} {s : State} (St : Stands G p 
   top_vertex : get_or w (G.size + (s.taken - 1)) 0 ≡ vertex_at G r
   top_vertex = vertex_of_rank St (s.taken - 1) (omega arith) ∙ ap (vertex_at G) (sym at_end)
 
-  popped_left : {m : ℕ} → Trimmed G.size w (s.taken - 1) s.left r m → (part w (2 * G.size) m ≡ left_ranks G (opened r p)) × (m ≤ r)
+  popped_left : {m : ℕ} → Trimmed (part w (2 * G.size) s.left) (s.taken - 1) r m → (part w (2 * G.size) m ≡ left_ranks G (opened r p)) × (m ≤ r)
   unfolding left_ranks
   popped_left {m} T = ⊎_elim others only (lt_or_ge 0 (s.taken - 1))
     where
@@ -207,10 +207,11 @@ module _ {G : Graph} {p : Position} {w : List ℕ} {s : State} (St : Stands G p 
           let low = highest.low in
           let f = left_popped highest (let e = popped_length in omega arith) in
           let c = left-count G p w s St in
+          let long = part_length w (2 * G.size) s.left (let x = left-few St in let z = St.room in omega arith) in
           let fewer = T.fewer in
           let cut = passing-cut G.size r (left_of_pivot G p) m (omega arith) (omega arith)
-          (λ j a b. let e = left-entry G p w s St j (omega arith) in let d = T.dropped h j a (omega arith) in omega arith)
-          (λ a. let e = left-entry G p w s St (m - 1) (omega arith) in let d = T.last-kept a in omega arith) in
+          (λ j a b. let e = left-entry G p w s St j (omega arith) in let d = T.dropped h j a (omega arith) in let x = part_at w (2 * G.size) s.left j (omega arith) in omega arith)
+          (λ a. let e = left-entry G p w s St (m - 1) (omega arith) in let d = T.last-kept a in let x = part_at w (2 * G.size) s.left (m - 1) (omega arith) in omega arith) in
           let whole = sym (part-take w (2 * G.size) s.left m (omega arith)) ∙ ap (take m) St.left ∙ cut in
           let n = ap length whole ∙ passing-count r (left_of_pivot G p) in
           let b = part_length w (2 * G.size) m (let x = left-few St in let z = St.room in omega arith) in
@@ -230,7 +231,7 @@ module _ {G : Graph} {p : Position} {w : List ℕ} {s : State} (St : Stands G p 
         ∙ ap (λ (d : ℕ). degrees_of G (taken_list G (opened r p)) + d) (sym (e-is ∙ ap (degree G) (v_is ∙ top_vertex)))
 
     -- the state with rank r and all after it opened
-    pub last_opened : apart G (reopened p) ≡ false → {m : ℕ} → Trimmed G.size w (s.taken - 1) s.left r m
+    pub last_opened : apart G (reopened p) ≡ false → {m : ℕ} → Trimmed (part w (2 * G.size) s.left) (s.taken - 1) r m
         → Stands G (opened r p) w (record { decided = r; taken = s.taken - 1; left = m; sum = s.sum - e; apart = false })
     last_opened calm {m} T =
         let n = popped_length in

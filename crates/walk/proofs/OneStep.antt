@@ -16,16 +16,12 @@ use Rattle.theory.proofs.Walk.Walk.{step_down, step_up}
 use Rattle.theory.proofs.Basics.Refusals.{refuse_pass}
 use Rattle.theory.proofs.Walk.Lawful.{lawful}
 use Rattle.theory.proofs.Walk.Moves.{step-accepted}
-use Rattle.graph.specs.Table.{graph_of}
 use Rattle.state.specs.State.{Stands}
 use Rattle.walk.specs.Walk.{Walking, Moved, Stepped}
 use Rattle.state.specs.declared.State.{State}
 use Rattle.state.proofs.StandsFor.{some_open, no_open, finished-decided, untaken_live}
 
-module _ {n : ℕ} {q : Settings} {t degrees order : List ℕ} {p : Position} {w : List ℕ} {s : State} (W : Walking n q t degrees order p w s) where
-  abbrev G : Graph
-  G = graph_of n t
-
+module _ {G : Graph} {q : Settings} {p : Position} {w : List ℕ} {s : State} (W : Walking G q p w s) where
   -- the taken ranks but the last decided one are pairwise adjacent
   pub passes_calm : apart G (reopened p) ≡ false
   unfolding refuse_position dead
@@ -39,7 +35,7 @@ module _ {n : ℕ} {q : Settings} {t degrees order : List ℕ} {p : Position} {w
   pub dead-taken : (rules G q).dead p ≡ true → 0 < s.taken
   dead-taken e = let some : s.taken ≢ 0 = λ z. true≢false (sym e ∙ untaken_live W.stands q z) in omega arith
 
-  pub decided-taken : finished p ≡ false → n ≤ s.decided → 0 < s.taken
+  pub decided-taken : finished p ≡ false → G.size ≤ s.decided → 0 < s.taken
   decided-taken e h =
       let some : s.taken ≢ 0 = λ z. true≢false (sym (eq-eqb s.taken 0 z) ∙ sym (finished-decided W.stands h) ∙ e) in
       omega arith
@@ -49,11 +45,11 @@ module _ {n : ℕ} {q : Settings} {t degrees order : List ℕ} {p : Position} {w
       record {
         position = M.position ∙ sym e;
         stands = subst⁻¹ (λ (z : Position). Stands G z w₂ s₂) e M.stands;
-        passes = step-accepted (rules G q) n (lawful G W.simple.loopless q) p W.stands.long W.passes;
+        passes = step-accepted (rules G q) G.size (lawful G W.simple.loopless q) p W.stands.long W.passes;
       }
 
   -- a live position with an open rank
-  pub stepped_down : {x : Position} {w₂ : List ℕ} {s₂ : State} → (rules G q).dead p ≡ false → s.decided < n → Moved G (advance p) x w₂ s₂ → Stepped G q p x w₂ s₂
+  pub stepped_down : {x : Position} {w₂ : List ℕ} {s₂ : State} → (rules G q).dead p ≡ false → s.decided < G.size → Moved G (advance p) x w₂ s₂ → Stepped G q p x w₂ s₂
   stepped_down live h =
       to_step (step_down (rules G q) p (ap₂ (λ (a b : Bool). not a && b) live (some_open W.stands h)))
 
@@ -61,7 +57,7 @@ module _ {n : ℕ} {q : Settings} {t degrees order : List ℕ} {p : Position} {w
   pub stepped_dead : {x : Position} {w₂ : List ℕ} {s₂ : State} → (rules G q).dead p ≡ true → Moved G (retreat p) x w₂ s₂ → Stepped G q p x w₂ s₂
   stepped_dead e = to_step (step_up (rules G q) p (ap (λ (a : Bool). not a && has 0 p) e))
 
-  pub stepped_decided : {x : Position} {w₂ : List ℕ} {s₂ : State} → n ≤ s.decided → Moved G (retreat p) x w₂ s₂ → Stepped G q p x w₂ s₂
+  pub stepped_decided : {x : Position} {w₂ : List ℕ} {s₂ : State} → G.size ≤ s.decided → Moved G (retreat p) x w₂ s₂ → Stepped G q p x w₂ s₂
   stepped_decided h =
       to_step
       (step_up (rules G q) p

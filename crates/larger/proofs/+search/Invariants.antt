@@ -1,6 +1,7 @@
--- `larger::search`: the candidates left fall with each call, and each turn of the loop passes one.
+-- `larger::search`: the candidates left fall with each call.
 -- Assumes nothing.
 use Prim.Native.Nat.{◌-◌}
+use Rattle.graph.specs.Held.{graph_in}
 use Rattle.larger.proofs.Searching.{At}
 use Rattle.larger.proofs.+search.Given as goal
 
@@ -9,7 +10,4 @@ abbrev pub decreases-search : goal.decreases-search
 decreases-search l = l.m - l.i
 
 abbrev pub invariant-loop-j : goal.invariant-loop-j
-invariant-loop-j l = At l.n l.table l.degrees l.initial.work l.s l.y l.base l.i l.m l.work l.j
-
-abbrev pub decreases-loop-j : goal.decreases-loop-j
-decreases-loop-j l = l.m - l.j
+invariant-loop-j l = At (graph_in l.lent.table) l.initial.work l.s l.y l.base l.i l.m l.work l.j

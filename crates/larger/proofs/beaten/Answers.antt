@@ -1,24 +1,23 @@
 -- `larger::beaten` meets its contract: a return for each way to decide.
 -- Assumes nothing.
-use mathlib.Core.Path.{refl}
-use Rattle.larger.proofs.Maximal.{posed_room, by_search, by_kind, by_min}
+use Rattle.std.proofs.Common.{refl}
+use Rattle.larger.proofs.Maximal.{kind-test, notion-test, posed_room, by_search, by_kind, by_min}
 use Rattle.larger.proofs.beaten.Goals as goal
+use Rattle.larger.proofs.beaten.Goals.{then-eq-via-then-eq, then-eq-via-else-eq+then-eq-2}
 
-pub returns-then-s-ne0 : goal.returns-then-s-ne0
-returns-then-s-ne0 c =
-    by_kind c.requires.0 c.requires.1 c.if-s-ne0.true refl
+pub returns-then-eq : goal.returns-then-eq
+returns-then-eq c =
+    let kind = kind-test c.args.s.kind (rw c.kind.ensures at c.eq.ensures) in
+    elim c.then-eq.branch [
+      | then-eq-via-then-eq w ↦ by_kind c.args.lent.now.table.fits.small c.requires.parts c.requires.posed (kind.0 w.if-eq.true) refl
+      | then-eq-via-else-eq+then-eq-2 w ↦ by_min c.args.lent.now.table.fits.small c.requires.parts c.requires.posed (kind.1 w.if-eq.false) ((notion-test c.args.s.notion (rw w.notion.ensures at w.eq-else-eq.ensures)).0 w.if-eq-2.true) refl
+    ]
 
-pub returns-then-s-eq0 : goal.returns-then-s-eq0
-returns-then-s-eq0 c =
-    by_min c.requires.0 c.requires.1 c.if-s-ne0.false c.if-s-eq0.true refl
-
-pub search-requires : goal.search-requires
-search-requires c =
-    (c.requires.0, posed_room c.requires.0 c.requires.1)
-
-pub shape_of-work : goal.shape_of-work
-shape_of-work c = c.search.ensures.kept.state.length-kept
+pub search-requires-clause-state : goal.search-requires-clause-state
+search-requires-clause-state c = posed_room c.args.lent.now.table.fits.small c.requires.parts c.requires.posed
 
 pub returns : goal.returns
 returns c =
-    by_search c.requires.0 c.requires.1 c.if-s-ne0.false c.if-s-eq0.false c.search.ensures
+    by_search c.args.lent.now.table.fits.small c.requires.parts c.requires.posed
+    ((kind-test c.args.s.kind (rw c.kind.ensures at c.eq.ensures)).1 c.if-eq.false)
+    ((notion-test c.args.s.notion (rw c.notion.ensures at c.eq-else-eq.ensures)).1 c.if-eq-2.false) c.search.ensures

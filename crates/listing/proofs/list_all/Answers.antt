@@ -1,45 +1,33 @@
 -- `listing::list_all` meets its contract. The loop keeps the replies so far; the weight of the position falls, since each page makes a step.
 -- Assumes nothing.
-use mathlib.Core.Path.{refl, ◌∙◌}
-use mathlib.Core.Bool.{true, false, false≢true}
-use native.Mathlib.Omega.{arith}
-use Rattle.print.proofs.Puts.{puts-within}
-use Rattle.listing.proofs.PageByPage.{paged_none, turned_printed, turned_paged, turned_ran, turned_falls}
+use mathlib.Core.Path.{sym, ◌∙◌}
+use lib.Seq.{length-take-le}
+use Rattle.theory.proofs.Calls.Bounds.{page_bounds}
+use Rattle.listing.proofs.PageByPage.{used-fits, paged_none, turned_cut, turned_whole, turned_paged, turned_falls}
 use Rattle.listing.proofs.list_all.Goals as goal
 
-pub loop-s-init : goal.loop-s-init
-loop-s-init g c = (paged_none c.requires.start, refl, refl, refl, refl)
+pub loop-settings-init : goal.loop-settings-init
+loop-settings-init g c = paged_none c.requires.start
 
-pub write_page-written-requires : goal.write_page-written-requires
-write_page-written-requires g c =
-    let b = c.requires in
-    record {
-      k_in_bounds = puts-within c.one_page-t.ensures.puts;
-      bytes_value =
-          turned_printed _ b.no_fault b.settings c.loop-s.invariant.0 _ _ (omega (arith, b.room, c.loop-s.invariant.3)) c.one_page-t.ensures;
-    }
+pub slice_bounds-write_page-end-in-loop-settings-2 : goal.slice_bounds-write_page-end-in-loop-settings-2
+slice_bounds-write_page-end-in-loop-settings-2 g c = used-fits (page_bounds _ _) c.one_page-end.ensures.replies
 
-pub returns-then-not-written : goal.returns-then-not-written
-returns-then-not-written g c =
-    let b = c.requires in
-    turned_ran _ b.no_fault b.settings c.loop-s.invariant.0 _ _ (omega (arith, b.room, c.loop-s.invariant.3)) c.one_page-t.ensures c.held_add-groups.ensures c.held_add-steps.ensures false (λ e. absurd (false≢true e))
+pub slice_bounds-write_page-end-in-loop-settings-3 : goal.slice_bounds-write_page-end-in-loop-settings-3
+slice_bounds-write_page-end-in-loop-settings-3 g c =
+    sym (length-take-le _ _ (used-fits (page_bounds _ _) c.one_page-end.ensures.replies))
 
-pub returns-then-t : goal.returns-then-t
-returns-then-t g c =
-    let b = c.requires in
-    turned_ran _ b.no_fault b.settings c.loop-s.invariant.0 _ _ (omega (arith, b.room, c.loop-s.invariant.3)) c.one_page-t.ensures c.held_add-groups.ensures c.held_add-steps.ensures true (λ e. c.if-t.true)
+pub returns-then-is_err : goal.returns-then-is_err
+returns-then-is_err g c =
+    turned_cut c.requires c.loop-settings.invariant c.loop-settings.auto.work c.one_page-end.ensures c.add.ensures.groups c.add.ensures.steps
 
-pub loop-s-smaller : goal.loop-s-smaller
-loop-s-smaller g c =
-    let b = c.requires in
-    turned_falls _ b.no_fault b.settings c.loop-s.invariant.0 _ _ (omega (arith, b.room, c.loop-s.invariant.3)) c.one_page-t.ensures c.if-t.false (omega (arith, b.output, c.loop-s.invariant.2))
+pub returns-then-page-from : goal.returns-then-page-from
+returns-then-page-from g c =
+    turned_whole c.requires c.loop-settings.invariant c.loop-settings.auto.work c.one_page-end.ensures c.add.ensures.groups c.add.ensures.steps (c.if-page-from.true ∙ c.from.ensures)
 
-pub loop-s-preserved : goal.loop-s-preserved
-loop-s-preserved g c =
-    let b = c.requires in (
-      turned_paged _ b.no_fault b.settings c.loop-s.invariant.0 _ _ (omega (arith, b.room, c.loop-s.invariant.3)) c.one_page-t.ensures c.held_add-groups.ensures c.held_add-steps.ensures,
-      c.one_page-t.auto.position ∙ c.loop-s.invariant.1,
-      c.one_page-t.auto.output ∙ c.loop-s.invariant.2,
-      c.one_page-t.auto.work ∙ c.loop-s.invariant.3,
-      c.one_page-t.auto.bytes ∙ c.loop-s.invariant.4,
-    )
+pub loop-settings-smaller : goal.loop-settings-smaller
+loop-settings-smaller g c =
+    turned_falls c.requires c.loop-settings.invariant c.loop-settings.auto.work c.one_page-end.ensures c.loop-settings.auto.output (λ e. c.if-page-from.false (e ∙ sym c.from.ensures))
+
+pub loop-settings-preserved : goal.loop-settings-preserved
+loop-settings-preserved g c =
+    turned_paged c.requires c.loop-settings.invariant c.loop-settings.auto.work c.one_page-end.ensures c.add.ensures.groups c.add.ensures.steps

@@ -1,40 +1,46 @@
 -- `marked::beaten` meets its contract: a return for each way to decide.
 -- Assumes nothing.
-use mathlib.Core.Path.{refl}
-use Rattle.marked.proofs.Maximal.{posed_start, by_first, reads_least, clears, lent_marked, room_marked, by_search, by_kind, by_min}
+use Rattle.std.proofs.Common.{◌≡◌, ◌≢◌, refl}
+use Rattle.larger.proofs.Maximal.{kind-test, notion-test}
+use Rattle.marked.proofs.Maximal.{posed_start, by_first, reads_least, room_marked, by_search, by_kind, by_min}
 use Rattle.marked.proofs.beaten.Goals as goal
+use Rattle.marked.proofs.beaten.Goals.{Else-eq-2, then-eq-via-then-eq, then-eq-via-else-eq+then-eq-2}
 
-pub returns-then-s-ne0 : goal.returns-then-s-ne0
-returns-then-s-ne0 c =
-    by_kind c.requires.0 c.requires.1 c.if-s-ne0.true refl
+pub returns-then-eq : goal.returns-then-eq
+returns-then-eq c =
+    let kind = kind-test c.args.s.kind (rw c.kind.ensures at c.eq.ensures) in
+    elim c.then-eq.branch [
+      | then-eq-via-then-eq w ↦ by_kind c.args.lent.now.table.fits.small c.requires.parts c.requires.posed (kind.0 w.if-eq.true) refl
+      | then-eq-via-else-eq+then-eq-2 w ↦ by_min c.args.lent.now.table.fits.small c.requires.parts c.requires.posed (kind.1 w.if-eq.false) ((notion-test c.args.s.notion (rw w.notion.ensures at w.eq-else-eq.ensures)).0 w.if-eq-2.true) refl
+    ]
 
-pub returns-then-s-eq0 : goal.returns-then-s-eq0
-returns-then-s-eq0 c =
-    by_min c.requires.0 c.requires.1 c.if-s-ne0.false c.if-s-eq0.true refl
+-- past both tests the kind is maximal isolated, and the notion above min
+searched : (c : Else-eq-2) → (c.args.s.kind ≡ 0) × (c.args.s.notion ≢ 0)
+searched c = (
+  (kind-test c.args.s.kind (rw c.kind.ensures at c.eq.ensures)).1 c.if-eq.false,
+  (notion-test c.args.s.notion (rw c.notion.ensures at c.eq-else-eq.ensures)).1 c.if-eq-2.false,
+)
 
-pub first_way-requires : goal.first_way-requires
-first_way-requires c =
-    (c.requires.0, posed_start c.requires.0 c.requires.1)
+pub first_way-requires-clause-start : goal.first_way-requires-clause-start
+first_way-requires-clause-start c = posed_start c.args.lent.now.table.fits.small c.requires.parts c.requires.posed
 
 pub returns-then-first_way : goal.returns-then-first_way
 returns-then-first_way c =
-    by_first c.requires.0 c.requires.1 c.if-s-ne0.false c.if-s-eq0.false c.first_way.ensures c.if-first_way.true
+    let t = searched (goal.at.returns-then-first_way c).Else-eq-2 in
+    by_first c.args.lent.now.table.fits.small c.requires.parts c.requires.posed t.0 t.1 c.first_way.ensures c.if-first_way.true
 
 pub least_degree-low-requires : goal.least_degree-low-requires
 least_degree-low-requires c =
-    reads_least c.requires.0 c.requires.1 c.if-s-ne0.false c.if-s-eq0.false c.first_way.ensures
+    let t = searched (goal.at.least_degree-low-requires c).Else-eq-2 in
+    reads_least c.args.lent.now.table.fits.small c.requires.parts c.requires.posed t.0 t.1 c.first_way.ensures
 
-pub clear_marks-requires : goal.clear_marks-requires
-clear_marks-requires c =
-    clears c.requires.0 c.requires.1 c.if-s-ne0.false c.if-s-eq0.false c.first_way.ensures
-
-pub search-requires : goal.search-requires
-search-requires c = (
-  lent_marked c.requires.0 c.requires.1 c.if-s-ne0.false c.if-s-eq0.false c.first_way.ensures c.least_degree-low.ensures c.clear_marks.ensures,
-  room_marked c.requires.0 c.requires.1 c.if-s-ne0.false c.if-s-eq0.false c.first_way.ensures c.least_degree-low.ensures c.clear_marks.ensures,
-)
+pub search-requires-clause-state : goal.search-requires-clause-state
+search-requires-clause-state c =
+    let t = searched (goal.at.search-requires-clause-state c).Else-eq-2 in
+    room_marked c.args.lent.now.table.fits.small c.requires.parts c.requires.posed t.0 t.1 c.first_way.ensures c.least_degree-low.ensures c.clear_marks.ensures
 
 pub returns : goal.returns
 returns c =
-    by_search c.requires.0 c.requires.1 c.if-s-ne0.false c.if-s-eq0.false c.first_way.ensures c.least_degree-low.ensures c.clear_marks.ensures
+    let t = searched (goal.at.returns c).Else-eq-2 in
+    by_search c.args.lent.now.table.fits.small c.requires.parts c.requires.posed t.0 t.1 c.first_way.ensures c.least_degree-low.ensures c.clear_marks.ensures
     c.search.ensures

@@ -1,12 +1,9 @@
 -- `marked::least_degree` meets its contract: no degree that was read is below the number.
 -- Assumes nothing.
-use Prim.Native.Nat.{ℕ, ◌-◌, ◌≤◌, ◌<◌}
-use lib.ListN.{get_or}
-use Rattle.marked.specs.Places.{candidates_in}
+use Rattle.std.proofs.Common.{ℕ, ◌≤◌, ◌<◌, get_or}
+use Rattle.model.specs.Graph.{degree}
+use Rattle.graph.specs.Held.{graph_in}
 use Rattle.marked.proofs.least_degree.Given as goal
 
-abbrev pub invariant-loop-j : goal.invariant-loop-j
-invariant-loop-j l = (l.low ≤ 65535) × (l.j ≤ l.m) × ((e : ℕ) → e < l.j → l.low ≤ get_or l.degrees (candidates_in l.n l.work e) 0)
-
-abbrev pub decreases-loop-j : goal.decreases-loop-j
-decreases-loop-j l = l.m - l.j
+abbrev pub invariant-loop-v : goal.invariant-loop-v
+invariant-loop-v l = (l.low ≤ 65535) × ((e : ℕ) → e < l.v-index → l.low ≤ degree (graph_in l.lent.table) (get_or l.candidates e 0))

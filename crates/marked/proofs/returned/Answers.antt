@@ -1,7 +1,6 @@
 -- `marked::returned` meets its contract: a mark of the depth goes back to 0, and every other is kept.
 -- Assumes nothing.
-use mathlib.Core.Path.{sym}
-use native.Mathlib.Omega.{arith}
+use Rattle.std.proofs.Common.{sym, arith}
 use Rattle.marked.proofs.Marks.{returned-back, returned-other}
 use Rattle.marked.proofs.returned.Goals as goal
 

@@ -1,24 +1,17 @@
--- `position::decided_count` meets its contract: no rank that was passed is open.
+-- `position::decided_count` meets its contract: the chain finds the lowest open rank where there is one.
 -- Assumes nothing.
-use mathlib.Core.Path.{sym}
-use native.Mathlib.Omega.{arith}
-use borrow.Author.Tests.{eq-eqb, ne_eqb}
-use borrow.Author.Count.{below_more}
-use Rattle.theory.proofs.Basics.Counting.{least-is}
+use Rattle.std.proofs.Common.{rules, tests, ◌≡◌, ◌≢◌, ◌∙◌, sym, length}
+use Rattle.std.proofs.lemmas.Iterator.{YieldsList-from_slice, IsFirst-from_position, index_from_first}
+use Rattle.model.specs.Walk.{Position}
+use Rattle.model.specs.Below.{least}
+use Rattle.model.specs.Listing.{is}
+use Rattle.position.proofs.Scans.{first-none, first-hit, first-miss}
 use Rattle.position.proofs.decided_count.Goals as goal
-
-pub loop-i-init : goal.loop-i-init
-loop-i-init c = (omega arith, λ k h. absurd (omega arith))
-
-pub returns-then-position-i-eq0 : goal.returns-then-position-i-eq0
-returns-then-position-i-eq0 c =
-    let l = c.loop-i in
-    sym (least-is _ _ l.i (omega arith) l.invariant.1 (λ _. eq-eqb _ 0 c.if-position-i-eq0.true))
-
-pub loop-i-preserved : goal.loop-i-preserved
-loop-i-preserved c = (omega arith, below_more _ _ c.loop-i.invariant.1 (ne_eqb _ 0 c.if-position-i-eq0.false))
 
 pub returns : goal.returns
 returns c =
-    let l = c.loop-i in
-    sym (least-is _ _ l.i l.invariant.0 l.invariant.1 (λ h. absurd (omega arith)))
+    let p = c.args.position.now in
+    let found =
+    IsFirst-from_position _ _ c.position.result (λ b. b ≡ 0) (λ b. b ≢ 0) c.position.ensures.ran (YieldsList-from_slice p cc) (λ x q k. search (rules, tests))
+    (λ x q k. search (rules, tests)) in
+    c.unwrap_or.ensures ∙ sym (index_from_first (λ (q : Position). least (length q) (is 0 q)) (λ b. b ≡ 0) (λ b. b ≢ 0) first-none first-hit first-miss p c.position.result found)

@@ -1,5 +1,6 @@
 -- `print::end_line` meets its contract. Assumes nothing.
 use native.Mathlib.Omega.{arith}
+use Rattle.std.proofs.Common.{rules}
 use Rattle.model.specs.Program.{end_line}
 use Rattle.print.proofs.Numeral.{ten_digits}
 use Rattle.print.proofs.end_line.Goals as goal
@@ -9,4 +10,4 @@ put_line-requires c = omega (arith, ten_digits c.args.groups (omega arith), ten_
 
 pub returns : goal.returns
 unfolding end_line
-returns c = c.put_line.ensures
+returns c = search rules

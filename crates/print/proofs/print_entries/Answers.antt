@@ -1,26 +1,15 @@
 -- `print::print_entries` meets its contract. Assumes nothing.
+use mathlib.Core.Path.{refl, ◌∙◌}
 use native.Mathlib.Omega.{arith}
-use Rattle.print.proofs.Puts.{puts-length}
+use Rattle.std.proofs.Common.{rules}
 use Rattle.print.proofs.Printed.{so_none, so_more, so_all}
 use Rattle.print.proofs.print_entries.Goals as goal
 
-pub loop-i-init : goal.loop-i-init
-loop-i-init c = so_none
+pub loop-entry-init : goal.loop-entry-init
+loop-entry-init c = (refl, so_none)
 
-pub put_entry-s-requires : goal.put_entry-s-requires
-put_entry-s-requires c =
-    let l = c.loop-i.invariant in
-    let h = l.short in
-    omega (arith, puts-length l.puts)
-
-pub loop-i-preserved : goal.loop-i-preserved
-loop-i-preserved c =
-    so_more c.loop-i.invariant (omega arith) c.put_entry-s.ensures
-
-pub shape_of-bytes : goal.shape_of-bytes
-shape_of-bytes c = puts-length c.loop-i.invariant.puts
+pub loop-entry-preserved : goal.loop-entry-preserved
+loop-entry-preserved c = (c.put_entry-left.ensures.same_reference ∙ c.loop-entry.invariant.0, so_more c.loop-entry.invariant.1 (omega arith) c.put_entry-left.ensures.puts)
 
 pub returns : goal.returns
-returns c =
-    let h = c.loop-i.invariant.passed in
-    so_all c.loop-i.invariant (omega arith)
+returns c = let p = so_all c.loop-entry.invariant.1 (omega arith) in search rules

@@ -1,11 +1,7 @@
 -- `print::print_entries` meets its contract. Assumes nothing.
-use Prim.Native.Nat.{◌-◌}
-use lib.ListN.{length}
+use mathlib.Core.Path.{◌≡◌}
 use Rattle.print.proofs.Printed.{SoFar}
 use Rattle.print.proofs.print_entries.Given as goal
 
-abbrev pub invariant-loop-i : goal.invariant-loop-i
-invariant-loop-i l = SoFar l.entries l.initial.bytes l.bytes l.s l.i
-
-abbrev pub decreases-loop-i : goal.decreases-loop-i
-decreases-loop-i l = length l.entries - l.i
+abbrev pub invariant-loop-entry : goal.invariant-loop-entry
+invariant-loop-entry l = (l.printer.bytes.ghost_name ≡ l.initial.printer.bytes.ghost_name) × SoFar l.entries l.initial.printer.bytes.now l.printer.bytes.now l.printer.at l.left l.entry-index

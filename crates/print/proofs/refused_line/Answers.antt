@@ -1,5 +1,6 @@
 -- `print::refused_line` meets its contract. Assumes nothing.
 use native.Mathlib.Omega.{arith}
+use Rattle.std.proofs.Common.{rules}
 use Rattle.model.specs.Program.{refused_line}
 use Rattle.print.proofs.Numeral.{ten_digits, twenty_digits}
 use Rattle.print.proofs.refused_line.Goals as goal
@@ -9,4 +10,4 @@ put_line-requires c = omega (arith, ten_digits c.args.number (omega arith), twen
 
 pub returns : goal.returns
 unfolding refused_line
-returns c = c.put_line.ensures
+returns c = search rules

@@ -1,35 +1,35 @@
--- `state::misses_one` meets its contract: the vertices that were passed are joined to v.
+-- `state::misses_one` meets its contract.
 -- Assumes nothing.
-use Prim.Native.Nat.{ℕ, ◌-◌}
-use mathlib.Core.Path.{◌≡◌, sym, ap, ◌∙◌}
-use mathlib.Core.Bool.{Bool, not}
-use mathlib.Core.List.{List}
-use native.Mathlib.Omega.{arith}
-use Rattle.theory.proofs.Basics.Tests.{from_more, any_found, any_none}
-use Rattle.graph.specs.Table.{graph_of}
+use Rattle.std.proofs.Common.{ℕ, ◌-◌, ◌<◌, ◌≡◌, ◌∙◌, sym, ap, not, Bool, length, get_or, arith}
+use Rattle.std.proofs.lemmas.List.Elements.{All-get_or}
+use Rattle.model.specs.Graph.{Graph}
+use mathlib.Core.Logic.{⊎_elim}
+use Rattle.theory.proofs.Basics.Tests.{lt_or_ge, any_found, any_none}
+use Rattle.graph.specs.Held.{graph_in}
 use Rattle.state.proofs.misses_one.Goals as goal
 
 -- the test of the vertex x that was read as u
-read : (n : ℕ) (t : List ℕ) (v : ℕ) {u x : ℕ} {a b : Bool} → u ≡ x → a ≡ (graph_of n t).joined u v → not a ≡ b → not ((graph_of n t).joined x v) ≡ b
-read n t v e f g = ap (λ (u : ℕ). not ((graph_of n t).joined u v)) (sym e) ∙ ap not (sym f) ∙ g
-
-pub loop-j-init : goal.loop-j-init
-loop-j-init c = (omega arith, λ i x y. absurd (omega arith))
+read : (G : Graph) (v : ℕ) {u x : ℕ} {a b : Bool} → u ≡ x → a ≡ G.joined u v → not a ≡ b → not (G.joined x v) ≡ b
+read G v e f g = ap (λ (u : ℕ). not (G.joined u v)) (sym e) ∙ ap not (sym f) ∙ g
 
 pub joined-requires : goal.joined-requires
 joined-requires c =
-    let l = c.requires.vertices (c.loop-j.j - 1) (omega arith) in
-    (c.requires.fits, omega (arith, c.entry_at-u.ensures), c.requires.vertex)
+    let low = All-get_or (λ u. u < c.args.table.now.n) c.args.vertices.now (length c.args.vertices.now - 1 - c.loop-i.i) 0 (omega arith) c.requires.0 in
+    (omega (arith, low, c.from-u.ensures), c.requires.1)
 
 pub returns-then-not-joined : goal.returns-then-not-joined
 returns-then-not-joined c =
-    let l = c.loop-j in
-    sym (any_found _ _ (l.j - 1) (omega arith) (read _ _ _ c.entry_at-u.ensures c.joined.ensures (ap not c.if-not-joined.true)))
+    sym (any_found _ _ (length c.args.vertices.now - 1 - c.loop-i.i) (omega arith) (read (graph_in c.args.table.now) c.args.v c.from-u.ensures c.joined.ensures (ap not c.if-not-joined.true)))
 
-pub loop-j-preserved : goal.loop-j-preserved
-loop-j-preserved c =
-    let l = c.loop-j in
-    (omega arith, from_more _ _ _ (read _ _ _ c.entry_at-u.ensures c.joined.ensures (ap not c.if-not-joined.false)) (λ i x. l.invariant.1 i (omega arith)))
+pub loop-i-preserved : goal.loop-i-preserved
+loop-i-preserved c = λ j h l.
+    let k = length c.args.vertices.now in
+    ⊎_elim
+    (λ e. c.loop-i.invariant j h (omega arith))
+    (λ e.
+    let here : k - 1 - c.loop-i.i ≡ j = omega arith in
+    read (graph_in c.args.table.now) c.args.v (c.from-u.ensures ∙ ap (λ (i : ℕ). get_or c.args.vertices.now i 0) here) c.joined.ensures (ap not c.if-not-joined.false))
+    (lt_or_ge (k - 1 - c.loop-i.i) j)
 
 pub returns : goal.returns
-returns c = sym (any_none _ _ (λ i h. c.loop-j.invariant.1 i (omega arith) h))
+returns c = sym (any_none _ _ (λ j h. c.loop-i.invariant j h (omega arith)))

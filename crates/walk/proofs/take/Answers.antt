@@ -10,16 +10,12 @@ use Rattle.state.specs.NextRank.{Decides}
 use Rattle.state.proofs.Opened.{set_decides}
 use Rattle.walk.proofs.take.Goals as goal
 
-pub bounds-position-d : goal.bounds-position-d
-bounds-position-d c =
-    omega (arith, c.requires.2, c.requires.1.long)
-
 pub returns : goal.returns
 returns c =
     let p = c.args.position.now in
     let s = c.args.s in
-    let St = c.requires.1 in
-    let h : s.decided < length p = omega (arith, c.requires.2, St.long) in
+    let St = c.requires.0 in
+    let h : s.decided < length p = omega (arith, c.requires.1, St.long) in
     let e = advance-is p s.decided h St.decided (St.still_open s.decided (omega arith)) in
     record {
       position = sym e;

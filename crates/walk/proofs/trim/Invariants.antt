@@ -1,11 +1,7 @@
--- `walk::trim` meets its contract: the entries that were passed are r or more.
+-- `walk::trim` meets its contract: the ranks that were passed are r or more.
 -- Assumes nothing.
-use Prim.Native.Nat.{ℕ, ◌+◌, ◌*◌, ◌≤◌, ◌<◌}
-use lib.ListN.{get_or}
+use Rattle.std.proofs.Common.{ℕ, ◌+◌, ◌≤◌, ◌<◌, length, get_or}
 use Rattle.walk.proofs.trim.Given as goal
 
-abbrev pub invariant-loop-kept : goal.invariant-loop-kept
-invariant-loop-kept l = (l.kept ≤ l.m) × ((j : ℕ) → l.kept ≤ j → j < l.m → l.r ≤ get_or l.work (2 * l.n + j) 0)
-
-abbrev pub decreases-loop-kept : goal.decreases-loop-kept
-decreases-loop-kept l = l.kept
+abbrev pub invariant-loop-i : goal.invariant-loop-i
+invariant-loop-i l = (j : ℕ) → length l.ranks ≤ j + l.i → j < length l.ranks → l.r ≤ get_or l.ranks j 0

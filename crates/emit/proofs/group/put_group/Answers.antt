@@ -2,13 +2,13 @@
 -- Assumes nothing.
 use mathlib.Core.List.{◌∷◌}
 use native.Mathlib.Omega.{arith}
+use lib.ListN.{length}
 use Rattle.model.specs.Listing.{record_length}
-use Rattle.theory.specs.Parts.{part}
 use Rattle.emit.proofs.Groups.{tail_at}
 use Rattle.emit.proofs.group.put_group.Goals as goal
 
 pub returns : goal.returns
 returns c =
     let a = c.args in
-    tail_at a.output.now (a.k ∷ part a.work.now a.from a.k) c.write_group.new.out a.used (record_length a.k) (omega arith)
-    c.write_group.ensures
+    let vs = a.vertices.now in
+    tail_at a.output.now (length vs ∷ vs) c.write_group.new.out a.used (record_length (length vs)) (omega arith) c.write_group.ensures

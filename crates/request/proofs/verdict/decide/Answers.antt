@@ -1,15 +1,12 @@
 -- `request::verdict::decide` meets its contract: the words decide, or the text does. Assumes nothing.
-use Rattle.request.proofs.ReadWords.{read_words}
+use Rattle.std.proofs.lemmas.Result.{err_from_is_err_and}
 use Rattle.request.proofs.JudgedText.{decides_wrong, decides_text}
 use Rattle.request.proofs.verdict.decide.Goals as goal
 
-pub returns-in-Wrong : goal.returns-in-Wrong
-returns-in-Wrong c = decides_wrong (read_words c.in-Wrong.is c.settings_of.ensures)
+pub returns-in_err-settings : goal.returns-in_err-settings
+returns-in_err-settings c =
+    let p = err_from_is_err_and c.from_residual.result c.from_residual.ensures.1 in
+    rw (p.1, p.2) (decides_wrong c.in_err-settings.ensures)
 
-pub judge-requires : goal.judge-requires
-judge-requires c =
-    record { s_value = (read_words c.in-Chosen.is c.settings_of.ensures).proper; table_value = c.requires }
-
-pub returns-in-Chosen : goal.returns-in-Chosen
-returns-in-Chosen c =
-    decides_text (read_words c.in-Chosen.is c.settings_of.ensures) c.judge.ensures
+pub returns : goal.returns
+returns c = decides_text c.in_ok-settings.ensures c.judge.ensures

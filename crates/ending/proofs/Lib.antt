@@ -1,2 +1,0 @@
--- The laws of the last line and the outcome.
-pub mod Endings

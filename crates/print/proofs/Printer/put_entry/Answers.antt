@@ -1,0 +1,37 @@
+-- `print::Printer::put_entry` meets its contract. Assumes nothing.
+use mathlib.Core.Path.{◌≡◌, refl, ap}
+use mathlib.Core.Bool.{cond}
+use mathlib.Core.List.{[], ◌∷◌}
+use native.Mathlib.Omega.{arith}
+use lib.ListN.{length}
+use lib.Dec.{eqb}
+use borrow.Author.Tests.{eq-eqb, ne_eqb}
+use Rattle.print.proofs.Puts.{puts_as}
+use Rattle.print.proofs.Printed.{number_fits, byte_fits, put_empty, put-size, put-vertex}
+use Rattle.print.proofs.Printer.put_entry.Goals as goal
+use Rattle.print.proofs.Printer.put_entry.Goals.{Joined-left-eq1, then-entry-eq0, else-entry-eq0, then-left-eq1, else-left-eq1}
+
+pub returns-then-left-eq0-clause-puts : goal.returns-then-left-eq0-clause-puts
+returns-then-left-eq0-clause-puts c =
+    elim c.if-entry-eq0.branch [
+      | then-entry-eq0 w ↦ rw (c.from.ensures, w.self-is) (put_empty c.if-left-eq0.true w.if-entry-eq0.true w.put.ensures.puts)
+      | else-entry-eq0 w ↦ rw (c.from.ensures, w.self-is) (put-size c.if-left-eq0.true w.if-entry-eq0.false (omega arith))
+    ]
+
+pub put_number-requires : goal.put_number-requires
+put_number-requires c = number_fits _ _ _ (omega arith) (omega arith)
+
+-- the byte that comes after a vertex
+parting : (c : Joined-left-eq1) → c.if-left-eq1.put.now ≡ cond (eqb c.args.left 1) 10 32 ∷ []
+parting c =
+    elim c.if-left-eq1.branch [
+      | then-left-eq1 w ↦ rw (eq-eqb c.args.left 1 w.if-left-eq1.true) (ap (λ b. b.now) w.put-is)
+      | else-left-eq1 w ↦ rw (ne_eqb c.args.left 1 w.if-left-eq1.false) (ap (λ b. b.now) w.put-is)
+    ]
+
+pub put-requires-2 : goal.put-requires-2
+put-requires-2 c = rw (ap length (parting c)) (byte_fits _ (omega arith) (omega arith) c.put_number.ensures.puts)
+
+pub returns-clause-puts : goal.returns-clause-puts
+returns-clause-puts c =
+    put-vertex c.if-left-eq0.false (omega arith) (rw c.from-2.ensures at c.put_number.ensures.puts) (puts_as (parting (goal.at.returns-clause-puts c).Joined-left-eq1) c.put-2.ensures.puts) refl

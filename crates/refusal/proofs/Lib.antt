@@ -1,0 +1,2 @@
+-- What follows of a refusal.
+pub mod Handed
