@@ -131,7 +131,8 @@ int main(void) {
     measure("join", ask_join, 0);
     measure("part", ask_part, 0);
     set[0] = 1;
-    measure("set query", ask_set, ISOLATED_STACK / 2);
+    /* The deepest search makes 512 calls, each of more than 128 bytes. */
+    measure("set query", ask_set, 512 * 128);
     /* Vertex 0 has rank 1: only vertex N - 1, of degree 1, comes before it. */
     memset(position, ISOLATED_LEFT, N);
     position[1] = ISOLATED_TAKEN;

@@ -21,7 +21,7 @@ use Rattle.listing.specs.declared.totals.Totals.{Totals}
 use Rattle.listing.proofs.PageByPage.{ran_begins, ran_prints}
 use Rattle.refusal.specs.Numbers.{number}
 use Rattle.dimacs.specs.declared.Refused.{Refused}
-use Rattle.request.specs.declared.verdict.Listing.{Listing}
+use Rattle.request.specs.declared.listing.Listing.{Listing}
 use Rattle.request.specs.Verdict.{verdict_of}
 use Rattle.request.specs.declared.words.Arguments.{Arguments}
 use Rattle.request.specs.Words.{Handed, passes}
@@ -61,7 +61,7 @@ read_same words text read h = words_same (settings_of_words words) text read h
 ended-uncut : (l : Result Totals Unlisted) (w : Bool) → outcome_of l w ≡ Ended → Uncut l
 ended-uncut (Ok l) w e = tt
 ended-uncut (Err (TurnedBack r)) w e = tt
-ended-uncut (Err (Cut l)) w e = cc
+ended-uncut (Err Cut) w e = cc
 
 said_listed : (words : List (List ℕ)) (text : List ℕ) (q : Listing) (t : List ℕ) → verdict_of (Ok q) t ≡ program_verdict words text
     → (l : Result Totals Unlisted) (listed : ListedBy (Ok q) t l) → PrintsAsSaid words text (Ok q) t l listed

@@ -6,7 +6,7 @@ use Rattle.isolation.specs.Numbers.{settings_of}
 use Rattle.listing.specs.List.{Ran}
 use Rattle.listing.specs.declared.totals.Totals.{Totals}
 use Rattle.dimacs.specs.declared.Refused.{Refused}
-use Rattle.request.specs.declared.verdict.Listing.{Listing}
+use Rattle.request.specs.declared.listing.Listing.{Listing}
 use Rattle.request.specs.declared.words.Arguments.{Arguments}
 use Rattle.request.specs.Verdict.{verdict_of, Decides}
 use Rattle.request.specs.Words.{passes}
@@ -15,24 +15,24 @@ use Rattle.ending.specs.declared.Unlisted.{Unlisted}
 use Rattle.ending.specs.declared.Unlisted.TheVariants.{TurnedBack, Cut}
 use Rattle.ending.specs.Ending.{last_line, outcome_of}
 
--- a list that was cut has no end
+-- the totals of a whole list; a list that was cut is told without totals
 abbrev pub unlisted_if_cut : Result Totals Totals → Result Totals Unlisted
 unlisted_if_cut (Ok l) = Ok l
-unlisted_if_cut (Err l) = Err (Cut l)
+unlisted_if_cut (Err l) = Err Cut
 
 -- what is listed for a verdict: the pages of its graph; of a refusal nothing is listed
 abbrev pub ListedBy : Result Listing Refused → List ℕ → Result Totals Unlisted → Type 0
 ListedBy (Err r) t l = l ≡ Err (TurnedBack r)
 ListedBy (Ok q) t l = (r : Result Totals Totals) × (l ≡ unlisted_if_cut r) × Ran q.vertices (take (q.vertices * q.vertices) t) (settings_of q.settings) r
 
--- an answer: the list of the verdict, and the outcome by it and by what the write of the last line answered, which may be either
+-- a verdict is answered: what it asks for is listed, and the outcome goes by this list and by whether its last line was written, which may be either
 pub record Answers (v : Result Listing Refused) (t : List ℕ) (o : Outcome) : Type 0 where
   pub list : Result Totals Unlisted
   pub listed : ListedBy v t list
   pub written : Bool
   pub told : o ≡ outcome_of list written
 
--- the response to words and text: the answer of the verdict on them
+-- words and a text are responded to: the verdict on them is answered
 pub record Responds (w : Arguments) (text t : List ℕ) (o : Outcome) : Type 0 where
   pub verdict : Result Listing Refused
   pub decided : Decides w text t verdict
@@ -51,7 +51,7 @@ pages_of (Ok q) t l h = printed_pages h.2.replies
 abbrev pub Uncut : Result Totals Unlisted → Type 0
 Uncut (Ok l) = Unit {0}
 Uncut (Err (TurnedBack r)) = Unit {0}
-Uncut (Err (Cut l)) = ⊥
+Uncut (Err Cut) = ⊥
 
 -- The verdict is document 01's. Where nothing was cut, what is printed of the pages and then the last line are what document 01 says. Where the list was cut,
 -- there is no last line, and what is printed of the pages is the beginning of what document 01 says.

@@ -1,16 +1,18 @@
 // The program: it reads its words and its text, decides, and prints a refusal or all groups and the totals.
-ghost use Rattle.std.specs.Prelude.{◌≡◌, ◌≤◌, length, replicate};
+ghost use Rattle.std.specs.Prelude.{◌≡◌, replicate};
 ghost use Rattle.isolation.specs.Numbers.{settings_of};
-ghost use Rattle.listing.specs.List.{Listable, Ran};
+ghost use Rattle.graph.specs.Table.{lent_table};
+ghost use Rattle.listing.specs.List.{Ran};
 ghost use Rattle.request.specs.Verdict.{Fine};
 ghost use Rattle.ending.specs.Ending.{last_line};
 ghost use Rattle.cli.specs.Printing.{ListedBy, Answers, Responds};
 
 use crate::reading::read_wanted;
-use ending::{Outcome, Unlisted, last_line, outcome_line, outcome_of};
+use ending::{Outcome, Unlisted, outcome_of, put_last_line, put_outcome_line};
 use graph::{Lent, Table};
 use listing::list_all;
 use listing::totals::Totals;
+use print::Printer;
 use request::verdict::{Listing, Verdict, decide};
 use request::words::Arguments;
 use std::env::{Env, FillError};
@@ -19,22 +21,26 @@ use std::io;
 use std::io::Write;
 use std::os::unix::fs::MetadataExt;
 
+// How many entries the output of a page has, and how many bytes are printed of them at most.
+const OUTPUT: usize = 8192;
+
+const PRINTED: usize = 6 * OUTPUT;
+
 // Prints "one line a group" of a graph of at most 256 vertices. Memory: a degree and a position byte for each vertex, the output of a page, and the work
 // slice of 256 vertices.
 fn list_graph(
     rt: &impl Print,
     table: &[u8],
     listing: Listing,
-    bytes: &mut [u8],
+    bytes: &mut [u8; PRINTED],
 ) -> Result<Totals, Totals>
-    requires listable { Listable listing.vertices table.now (settings_of listing.settings) }
-    requires room { 49152 ≤ length bytes.old }
+    requires { (lent_table listing.vertices table.now).fault ≡ 0 }
     ensures { Ran listing.vertices table.now (settings_of listing.settings) result }
 {
     let n = listing.vertices;
     let mut degrees = [0u16; 256];
     let mut position = [0u8; 256];
-    let mut output = [0u16; 8192];
+    let mut output = [0u16; OUTPUT];
     let mut work = [0u16; 2048];
     let table = Table { bytes: table, n };
     let degrees = &mut degrees[..n];
@@ -56,15 +62,14 @@ fn list(
     rt: &impl Print,
     verdict: Verdict,
     table: &[u8],
-    bytes: &mut [u8],
+    bytes: &mut [u8; PRINTED],
 ) -> Result<Totals, Unlisted>
-    requires fine { Fine verdict table.now }
-    requires room { 49152 ≤ length bytes.old }
+    requires { Fine verdict table.now }
     ensures { ListedBy verdict table.now result }
 {
     let listing = verdict?;
     let n = listing.vertices;
-    list_graph(rt, &table[..n * n], listing, bytes).map_err(Unlisted::Cut)
+    list_graph(rt, &table[..n * n], listing, bytes).map_err(|_| Unlisted::Cut)
 }
 
 // Writes the last line of what is printed. What is handed to the write is required, since no contract can speak of what a write does.
@@ -75,14 +80,14 @@ fn write_last(rt: &impl Print, line: &[u8], listed: Result<Totals, Unlisted>) ->
 }
 
 // Prints what a verdict asks for: the groups, and then the last line, by way of a buffer.
-fn answer(rt: &impl Print, verdict: Verdict, table: &[u8], bytes: &mut [u8]) -> Outcome
-    requires fine { Fine verdict table.now }
-    requires room { 49152 ≤ length bytes.old }
+fn answer(rt: &impl Print, verdict: Verdict, table: &[u8], bytes: &mut [u8; PRINTED]) -> Outcome
+    requires { Fine verdict table.now }
     ensures { Answers verdict table.now result }
 {
     let listed = list(rt, verdict, table, bytes);
-    let end = last_line(listed, bytes);
-    let written = write_last(rt, &bytes[..end], listed);
+    let mut printer = Printer::new(bytes);
+    put_last_line(listed, &mut printer);
+    let written = write_last(rt, printer.filled(), listed);
     outcome_of(listed, written.is_ok())
 }
 
@@ -92,10 +97,9 @@ fn respond(
     words: &Arguments,
     text: &[u8],
     table: &mut [u8],
-    bytes: &mut [u8],
+    bytes: &mut [u8; PRINTED],
 ) -> Outcome
-    requires zeros { table.old ≡ replicate 65536 0 }
-    requires room { 49152 ≤ length bytes.old }
+    requires { table.old ≡ replicate 65536 0 }
     ensures { Responds words.now text.now table.new result }
 {
     let verdict = decide(words, text, table);
@@ -111,12 +115,9 @@ fn argument<'a>(rt: &impl Env, place: usize, buffer: &'a mut [u8]) -> &'a [u8] {
 // How many arguments there are, the program's own name among them. One that doesn't fit the buffer counts like any other.
 fn argument_count(rt: &impl Env) -> usize {
     let mut buffer = [0u8; 8];
-    for place in 0..usize::MAX {
-        if let Err(FillError::NotPresent) = rt.arg(place, &mut buffer) {
-            return place;
-        }
-    }
-    usize::MAX
+    (0..usize::MAX)
+        .take_while(|place| !matches!(rt.arg(*place, &mut buffer), Err(FillError::NotPresent)))
+        .count()
 }
 
 // The program: words first, then 41, then the text, of which one byte more than is allowed tells that it is too long. A word that is longer than
@@ -136,15 +137,16 @@ pub fn program(rt: &(impl Env + Input + Print)) -> Outcome {
     let Ok(text) = read_wanted(rt, words.wants_text(), &mut text) else {
         return Outcome::Unread;
     };
-    let mut bytes = [0u8; 49152];
+    let mut bytes = [0u8; PRINTED];
     respond(rt, &words, text, &mut table, &mut bytes)
 }
 
 // Tells an outcome on a descriptor of its own, for whoever started the program with one. Where it can't be told, nothing more is done.
 pub fn tell<R: Files + Alloc>(rt: &R, descriptor: i32, outcome: Outcome) {
     let mut bytes = [0u8; 40];
-    let end = outcome_line(outcome, &mut bytes);
-    let _ = write_to(rt, descriptor, &bytes[..end]);
+    let mut printer = Printer::new(&mut bytes);
+    put_outcome_line(outcome, &mut printer);
+    let _ = write_to(rt, descriptor, printer.filled());
 }
 
 // Writes to a descriptor that the program was started with, where it may be written to: of the name that the system gives it the mode says so. It is opened

@@ -1,11 +1,10 @@
 -- What the text reader promises: its answer and the table slice as it leaves it are those of `read_text`. Assumes nothing.
-use Rattle.std.specs.Prelude.{ℕ, ◌≡◌, List, length, None, Result, Ok, Err}
+use Rattle.std.specs.Prelude.{ℕ, ◌≡◌, List, Result, Ok, Err}
 use Rattle.model.specs.Text.{TextReply, refused_at, read_text}
-use Rattle.refusal.specs.declared.Refusal.{Refusal}
 use Rattle.refusal.specs.Numbers.{number}
 use Rattle.lines.specs.declared.said.Said.{Said}
-use Rattle.lines.specs.Line.{reading_of, ReadingFits}
-use Rattle.dimacs.specs.declared.Place.{Place}
+use Rattle.lines.specs.declared.reader.Reader.{Reader}
+use Rattle.lines.specs.Line.{reading_of}
 use Rattle.dimacs.specs.declared.Refused.{Refused}
 use Rattle.dimacs.specs.declared.TextAnswer.{TextAnswer}
 
@@ -32,16 +31,7 @@ abbrev pub answer_of : Result Said Refused → TextAnswer
 answer_of (Ok s) = record { refusal = 0; vertices = s.vertices; edges = s.stated; line = 0 }
 answer_of (Err e) = record { refusal = number e.refusal; vertices = 0; edges = 0; line = e.line }
 
--- before the first line
-abbrev pub before_first : Place
-before_first = record { said = None; line = 1 }
-
--- what the lines were read as, up to a place, once what a refused text left in the table is cleared
-abbrev pub cleared_reply : Result Said Refusal → Place → List ℕ → TextReply
-cleared_reply (Ok s) p t = text_reply (Ok s) t
-cleared_reply (Err r) p t = refused_at (number r) p.line (reading_of p.said t) t
-
--- with that the lines are read as the definition says
-pub record LinesRead (text before : List ℕ) (p : Place) (after : List ℕ) (r : Result Said Refusal) : Type 0 where
-  pub reply : cleared_reply r p after ≡ read_text text before
-  pub fit : ReadingFits p.said (length before)
+-- what the lines were read as, once what a refused text left in the table is cleared
+abbrev pub cleared_reply : Result Said Refused → Reader → TextReply
+cleared_reply (Ok s) q = text_reply (Ok s) q.table.now
+cleared_reply (Err e) q = refused_at (number e.refusal) e.line (reading_of q) q.table.now

@@ -1,16 +1,18 @@
 // The text reader of document 01: an edge text becomes the table of a graph, line by line, in place.
 #![tactic(auto)]
 
-ghost use Rattle.std.specs.Prelude.{◌≡◌};
+ghost use Rattle.std.specs.Prelude.{◌≡◌, ◌++◌, replicate, drop, None};
 ghost use Rattle.model.specs.Text.{read_text};
-ghost use Rattle.dimacs.specs.Reply.{answer_of, before_first, text_reply, LinesRead, ReadsAs};
+ghost use Rattle.lines.specs.Said.{area_of};
+ghost use Rattle.dimacs.specs.Reply.{answer_of, text_reply, cleared_reply, ReadsAs};
 
+use lines::Reader;
 use lines::said::Said;
 use refusal::Refusal;
 
 // What a call answers: 0, N, M and 0, or the refusal's number, zeros and the line.
 #[repr(C)]
-#[derive(Drop)]
+#[derive(Clone, Copy, Debug, PartialEq, Eq)]
 pub struct TextAnswer {
     pub refusal: u32,
     pub vertices: u32,
@@ -54,31 +56,41 @@ impl From<Result<Said, Refused>> for TextAnswer {
     }
 }
 
-// How far a text was read: what its lines say so far, and the number of the next line.
-#[derive(Clone, Copy)]
-struct Place {
-    said: Option<Said>,
-    line: usize,
-}
-
-// Reads the lines of a text into the table, once, from the first to the last, up to a refusal. At the end: 33 no p line, 39 M differs, both with the
-// line count plus 1.
-fn read_lines(text: &[u8], table: &mut [u8], place: &mut Place) -> Result<Said, Refusal>
-    requires { place.old ≡ before_first }
-    ensures { LinesRead text.now table.old place.new table.new result }
+// Reads the lines of a text, once, from the first to the last, up to a refusal, which is of its line. At the end: 33 no p line, 39 M differs, both with
+// the line count plus 1.
+fn read_lines(text: &[u8], reader: &mut Reader) -> Result<Said, Refused>
+    requires { reader.old.said ≡ None }
+    ensures same_reference { reader.new.table.ghost_name ≡ reader.old.table.ghost_name }
+    ensures lines_read { cleared_reply result reader.new ≡ read_text text.now reader.old.table.now }
 {
     let mut at: usize = 0;
+    let mut line: usize = 1;
     while at < text.len() {
-        let first = lines::read_first(&text[at..], table, &mut place.said);
-        first.outcome?;
+        let first = reader.read_first(&text[at..]);
+        first.outcome.map_err(|refusal| Refused { refusal, line })?;
         at += first.length + 1;
-        place.line += 1;
+        line += 1;
     }
-    let s = place.said.ok_or(Refusal::NoProblemLine)?;
+    let s = reader.said.ok_or(Refused {
+        refusal: Refusal::NoProblemLine,
+        line,
+    })?;
     if s.edges != s.stated {
-        return Err(Refusal::EdgeCount);
+        return Err(Refused {
+            refusal: Refusal::EdgeCount,
+            line,
+        });
     }
     Ok(s)
+}
+
+// Clears the first N × N bytes of the table, with the N that was read: none before a p line.
+fn clear(reader: &mut Reader)
+    ensures same_reference { reader.new.table.ghost_name ≡ reader.old.table.ghost_name }
+    ensures cleared { reader.new.table.now ≡ replicate (area_of reader.old.said) 0 ++ drop (area_of reader.old.said) reader.old.table.now }
+{
+    let n = reader.said.map_or(0, |s| s.vertices);
+    reader.table[0..n * n].fill(0);
 }
 
 // Reads a text into the table: what its lines say, or the refusal. What this gives, and every byte of the table slice afterwards, are what `read_text` of
@@ -87,21 +99,12 @@ fn read_lines(text: &[u8], table: &mut [u8], place: &mut Place) -> Result<Said, 
 pub fn read(text: &[u8], table: &mut [u8]) -> Result<Said, Refused>
     ensures { text_reply result table.new ≡ read_text text.now table.old }
 {
-    let mut place = Place {
-        said: None,
-        line: 1,
-    };
-    match read_lines(text, table, &mut place) {
-        Ok(s) => Ok(s),
-        Err(refusal) => {
-            let n = place.said.map_or(0, |s| s.vertices);
-            table[..n * n].fill(0);
-            Err(Refused {
-                refusal,
-                line: place.line,
-            })
-        }
+    let mut reader = Reader { table, said: None };
+    let read = read_lines(text, &mut reader);
+    if read.is_err() {
+        clear(&mut reader);
     }
+    read
 }
 
 // The text reader as C calls it. Refused: "N and M are then 0."

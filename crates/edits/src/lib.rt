@@ -140,8 +140,5 @@ fn write_degrees(bytes: &[u8], degrees: &mut [u16], n: usize) -> Result<(), Refu
 pub fn list_degrees(table: &[u8], degrees: &mut [u16], n: usize) -> u32
     ensures { ListReplies n table.now degrees.old result degrees.new }
 {
-    match write_degrees(table, degrees, n) {
-        Ok(()) => 0,
-        Err(refusal) => u32::from(refusal),
-    }
+    write_degrees(table, degrees, n).err().map_or(0, u32::from)
 }

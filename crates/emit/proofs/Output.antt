@@ -7,40 +7,38 @@ use mathlib.Core.List.{List, ◌∷◌, ◌++◌, append-nil}
 use native.Mathlib.Nat.{add-zero}
 use native.Mathlib.Omega.{arith}
 use lib.ListN.{length, take, drop, take-append-drop}
-use Rattle.model.specs.Below.{bit}
 use Rattle.model.specs.Graph.{Graph}
 use Rattle.model.specs.Walk.{Position, Rules, found, due}
 use Rattle.model.specs.Listing.{taken_list, rules, record_length}
-use Rattle.isolation.specs.declared.Settings.{Settings}
-use Rattle.isolation.specs.Numbers.{settings_of}
+use Rattle.isolation.specs.declared.criterion.Criterion.{Criterion}
+use Rattle.isolation.specs.Numbers.{settings_in}
 use Rattle.state.specs.declared.State.{State}
 use Rattle.theory.specs.Parts.{part}
 use Rattle.state.specs.State.{Stands}
 use Rattle.qualify.specs.Qualify.{Asks, SaysQualifies}
-use Rattle.std.proofs.Common.{Ok, Err}
+use Rattle.std.proofs.Common.{Ok, Err, Some, None}
 use Rattle.emit.specs.Emit.{Emitted}
 use Rattle.qualify.proofs.TakenSet.{due-found, due-none}
 use Rattle.qualify.proofs.Verdicts.{length_taken}
 
-module _ {G : Graph} {w w₁ : List ℕ} {q : Settings} {s : State} {b : Bool} (a : Asks G w q s) (j : SaysQualifies G w w₁ q s b) (out : List ℕ) (used : ℕ) where
+module _ {G : Graph} {w w₁ : List ℕ} {q : Criterion} {s : State} {b : Bool} (a : Asks G w q s) (j : SaysQualifies G w w₁ q s b) (out : List ℕ) (used : ℕ) where
   abbrev R : Rules
-  R = rules G (settings_of q)
+  R = rules G (settings_in q)
 
   -- no group is found
-  pub emitted_none : b ≡ false → used ≤ length out → Emitted G w w₁ q s used out out (Ok (record { used = used; groups = 0 }))
+  pub emitted_none : b ≡ false → used ≤ length out → Emitted G w w₁ q s used out out (Ok None)
   emitted_none e h =
       record {
         at = λ p st.
             let f = sym (j.answer p st) ∙ e in
-            let none = due-none G (settings_of q) p f in
+            let none = due-none G (settings_in q) p f in
             let nothing : length (due R p) ≡ 0 = ap length none in
             record {
               full = tt;
               put =
                   record {
                     fits = omega arith;
-                    used_then = omega arith;
-                    groups = sym (ap bit f);
+                    answer = rw f refl;
                     written =
                         subst (λ (es : List ℕ). out ≡ take used out ++ es ++ drop (used + length es) out) (sym none)
                         (sym (rw (append-nil (take used out), add-zero used) (take-append-drop used out)));
@@ -54,7 +52,7 @@ module _ {G : Graph} {w w₁ : List ℕ} {q : Settings} {s : State} {b : Bool} (
     found_here p st = sym (j.answer p st) ∙ e
 
     due_here : (p : Position) (st : Stands G p w s) → due R p ≡ s.taken ∷ taken_list G p
-    due_here p st = due-found G (settings_of q) p (found_here p st) ∙ ap (λ (k : ℕ). k ∷ taken_list G p) (length_taken a p st)
+    due_here p st = due-found G (settings_in q) p (found_here p st) ∙ ap (λ (k : ℕ). k ∷ taken_list G p) (length_taken a p st)
 
     due-long : (p : Position) (st : Stands G p w s) → length (due R p) ≡ record_length s.taken
     due-long p st = let l = length_taken a p st in let d : length (due R p) ≡ suc (length (taken_list G p)) = ap length (due_here p st) in omega arith
@@ -73,14 +71,14 @@ module _ {G : Graph} {w w₁ : List ℕ} {q : Settings} {s : State} {b : Bool} (
     -- it fits, and is written
     pub emitted_put : used + record_length s.taken ≤ length out → (k : ℕ) → k ≡ record_length s.taken → (next : List ℕ)
         → next ≡ take used out ++ (s.taken ∷ part w₁ G.size s.taken) ++ drop (used + record_length s.taken) out
-        → Emitted G w w₁ q s used out next (Ok (record { used = used + k; groups = 1 }))
+        → Emitted G w w₁ q s used out next (Ok (Some (used + k)))
     emitted_put l k m next f =
         record {
           at = λ p st.
               let d = due-long p st in
               record {
                 full = tt;
-                put = record { fits = omega arith; used_then = omega arith; groups = sym (ap bit (found_here p st)); written = f ∙ same p st };
+                put = record { fits = omega arith; answer = rw (found_here p st, d, m) refl; written = f ∙ same p st };
               };
           stands = j.stands;
         }

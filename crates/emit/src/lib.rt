@@ -9,17 +9,10 @@ ghost use Rattle.qualify.specs.Qualify.{Asks};
 ghost use Rattle.emit.specs.Emit.{Emitted};
 
 use crate::group::{put_group, record_length};
-use isolation::Settings;
+use isolation::Criterion;
 use qualify::qualifies;
 use ranks::Ranked;
 use state::State;
-
-// What was put out of a position: how many entries of the output are used then, and how many groups are put out, 0 or 1.
-#[derive(Clone, Copy, Debug, PartialEq, Eq)]
-pub struct Put {
-    pub used: usize,
-    pub groups: u32,
-}
 
 // The output has no room for a position's group, which wants so many entries.
 #[derive(Clone, Copy, Debug, PartialEq, Eq)]
@@ -27,24 +20,24 @@ pub struct Full {
     pub wanted: usize,
 }
 
-// Puts the group of the position that the state and the work slice stand for right after the used entries of the output, where there is one and it fits;
-// else writes nothing of the output.
+// Puts the group of the position that the state and the work slice stand for right after the used entries of the output, where there is one and it fits,
+// and answers how many entries are used then; else writes nothing of the output.
 // Document 01, "A page", point 3: a group whose record exceeds the unused entries is not written, and so many are wanted; point 4: else it is.
 pub fn emit(
     s: State,
-    q: Settings,
+    q: Criterion,
     g: &Ranked,
     work: &mut [u16],
     output: &mut [u16],
     used: usize,
-) -> Result<Put, Full>
+) -> Result<Option<usize>, Full>
     requires { Asks (ranked_graph g.now) work.old q s × (used ≤ length output.old) }
     ensures { Emitted (ranked_graph g.now) work.old work.new q s used output.old output.new result }
 {
-    let n = g.ordered.table.n;
+    let n = g.lent.table.n;
     let k = s.taken;
     if !qualifies(s, q, g, work) {
-        return Ok(Put { used, groups: 0 });
+        return Ok(None);
     }
     let entries = record_length(k);
     if output.len() - used < entries {
@@ -52,8 +45,5 @@ pub fn emit(
     }
     put_group(output, used, &work[n..n + k]);
     let end = used + entries;
-    Ok(Put {
-        used: end,
-        groups: 1,
-    })
+    Ok(Some(end))
 }

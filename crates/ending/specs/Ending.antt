@@ -13,13 +13,13 @@ use Rattle.ending.specs.declared.Outcome.TheVariants.{Ended, TurnedBack, Cut, Un
 abbrev pub last_line : Result Totals Unlisted → List ℕ
 last_line (Ok l) = end_line l.groups l.steps
 last_line (Err (unlisted.TurnedBack r)) = refused_line (number r.refusal) r.line
-last_line (Err (unlisted.Cut l)) = []
+last_line (Err unlisted.Cut) = []
 
 -- what the program tells of itself, by its list, and whether its last line was written
 abbrev pub outcome_of : Result Totals Unlisted → Bool → Outcome
 outcome_of (Ok l) w = cond w Ended Cut
 outcome_of (Err (unlisted.TurnedBack r)) w = cond w (TurnedBack r) Cut
-outcome_of (Err (unlisted.Cut l)) w = Cut
+outcome_of (Err unlisted.Cut) w = Cut
 
 -- the line that tells an outcome: `end`, `refused NUMBER LINE`, `cut` or `unread`
 abbrev pub outcome_line : Outcome → List ℕ

@@ -1,20 +1,20 @@
 // How the program ends: its last line, and what it tells of itself to those who ask.
 #![tactic(auto)]
 
-ghost use Rattle.std.specs.Prelude.{◌≡◌, ◌≤◌, length};
-ghost use Rattle.print.specs.Put.{Puts};
+ghost use Rattle.std.specs.Prelude.{◌≡◌};
+ghost use Rattle.print.specs.Put.{Room, Puts};
 ghost use Rattle.ending.specs.declared.Unlisted.TheVariants.{TurnedBack};
 ghost use Rattle.ending.specs.Ending.{last_line, outcome_of, outcome_line};
 
 use dimacs::Refused;
 use listing::totals::Totals;
-use print::{Printer, end_line, refused_line};
+use print::Printer;
 
 // Why there is no whole list: the words or the text were refused, or the list was cut at a write that failed.
 #[derive(Clone, Copy)]
 pub enum Unlisted {
     TurnedBack(Refused),
-    Cut(Totals),
+    Cut,
 }
 
 impl From<Refused> for Unlisted {
@@ -36,14 +36,14 @@ pub enum Outcome {
 }
 
 // Puts the last line of what is printed: `refused NUMBER LINE`, or `end GROUPS STEPS` where the list is whole. A list that was cut has no last line.
-pub fn last_line(listed: Result<Totals, Unlisted>, bytes: &mut [u8]) -> usize
-    requires { 40 ≤ length bytes.old }
-    ensures { Puts bytes.old 0 (last_line listed) bytes.new result }
+pub fn put_last_line(listed: Result<Totals, Unlisted>, printer: &mut Printer)
+    requires { Room printer.old 40 }
+    ensures { Puts printer.old (last_line listed) printer.new }
 {
     match listed {
-        Ok(totals) => end_line(totals.groups, totals.steps, bytes),
-        Err(Unlisted::TurnedBack(r)) => refused_line(r.refusal.into(), r.line, bytes),
-        Err(Unlisted::Cut(_)) => 0,
+        Ok(totals) => printer.put_end_line(totals.groups, totals.steps),
+        Err(Unlisted::TurnedBack(r)) => printer.put_refused_line(r.refusal.into(), r.line),
+        Err(Unlisted::Cut) => {}
     }
 }
 
@@ -57,22 +57,19 @@ pub fn outcome_of(listed: Result<Totals, Unlisted>, written: bool) -> Outcome
     match listed {
         Ok(_) => Outcome::Ended,
         Err(Unlisted::TurnedBack(r)) => Outcome::TurnedBack(r),
-        Err(Unlisted::Cut(_)) => Outcome::Cut,
+        Err(Unlisted::Cut) => Outcome::Cut,
     }
 }
 
 // Puts the line that tells an outcome: `end`, `refused NUMBER LINE`, `cut` or `unread`.
-pub fn outcome_line(outcome: Outcome, bytes: &mut [u8]) -> usize
-    requires { 40 ≤ length bytes.old }
-    ensures { Puts bytes.old 0 (outcome_line outcome) bytes.new result }
+pub fn put_outcome_line(outcome: Outcome, printer: &mut Printer)
+    requires { Room printer.old 40 }
+    ensures { Puts printer.old (outcome_line outcome) printer.new }
 {
-    let word: &[u8] = match outcome {
-        Outcome::Ended => b"end\n",
-        Outcome::TurnedBack(r) => return refused_line(r.refusal.into(), r.line, bytes),
-        Outcome::Cut => b"cut\n",
-        Outcome::Unread => b"unread\n",
-    };
-    let mut printer = Printer { bytes, at: 0 };
-    printer.put(word);
-    printer.at
+    match outcome {
+        Outcome::Ended => printer.put(b"end\n"),
+        Outcome::TurnedBack(r) => printer.put_refused_line(r.refusal.into(), r.line),
+        Outcome::Cut => printer.put(b"cut\n"),
+        Outcome::Unread => printer.put(b"unread\n"),
+    }
 }

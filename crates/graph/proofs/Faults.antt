@@ -41,13 +41,13 @@ module _ (G : Graph) where
       go false true e = e
       go false false e = e
 
-  pub one_way-found : (u : ℕ) → u < G.size → any u (differ G u) ≡ true → one_way G ≡ true
+  one_way-found : (u : ℕ) → u < G.size → any u (differ G u) ≡ true → one_way G ≡ true
   unfolding one_way
   one_way-found u h e =
       let r = (test_any u (differ G u) (λ k. test_self)).0 e in
       any_found G.size (λ w. any G.size (differ G w)) u h (any_found G.size (differ G u) r.0 (omega arith) r.2)
 
-  pub one_way-none : ((u : ℕ) → u < G.size → any u (differ G u) ≡ false) → one_way G ≡ false
+  one_way-none : ((u : ℕ) → u < G.size → any u (differ G u) ≡ false) → one_way G ≡ false
   unfolding one_way
   one_way-none f = any_none G.size (λ w. any G.size (differ G w)) (λ u hu. any_none G.size (differ G u) (λ v hv. at u v hu hv (trichotomy v u)))
     where
@@ -55,6 +55,14 @@ module _ (G : Graph) where
       at u v hu hv (inl l) = any-each u (differ G u) (f u hu) v l
       at u v hu hv (inr (inl e)) = rw e (differ_self u)
       at u v hu hv (inr (inr l)) = differ_turn u v (any-each v (differ G v) (f v hv) u l)
+
+  -- so each pair is looked at once
+  pub one_way-rows : any G.size (λ u. any u (differ G u)) ≡ one_way G
+  one_way-rows = go (any G.size (λ u. any u (differ G u))) refl
+    where
+      go : (b : Bool) → any G.size (λ u. any u (differ G u)) ≡ b → any G.size (λ u. any u (differ G u)) ≡ one_way G
+      go true e = let r = (test_any G.size (λ u. any u (differ G u)) (λ u. test_self)).0 e in e ∙ sym (one_way-found r.0 r.1 r.2)
+      go false e = e ∙ sym (one_way-none (any-each G.size (λ u. any u (differ G u)) e))
 
 -- the refusal number by the outcome of each test
 pub refusal_by : (n : ℕ) (t : List ℕ) {a b c d e : Bool} → ltb 1024 n ≡ a → not (eqb (length t) (n * n)) ≡ b → over 1 t ≡ c → looped (by_table n t) ≡ d

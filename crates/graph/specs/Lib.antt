@@ -2,4 +2,5 @@
 pub mod Table
 pub mod Degrees
 pub mod Held
+pub mod Vertices
 pub mod Given

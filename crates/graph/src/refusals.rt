@@ -27,12 +27,7 @@ impl<'a> Table<'a> {
     fn has_loop(&self) -> bool
         ensures { result ≡ looped (graph_in self.now) }
     {
-        for u in 0..self.n {
-            if self.joined(u, u) {
-                return true;
-            }
-        }
-        false
+        (0..self.n).any(|u| self.joined(u, u))
     }
 
     // Whether u and some vertex below u are joined in one direction alone. Reads u's row and its column up to the diagonal.
@@ -40,24 +35,14 @@ impl<'a> Table<'a> {
         requires { u < self.now.n }
         ensures { result ≡ any u (differ (graph_in self.now) u) }
     {
-        for v in 0..u {
-            if self.joined(u, v) != self.joined(v, u) {
-                return true;
-            }
-        }
-        false
+        (0..u).any(|v| self.joined(u, v) != self.joined(v, u))
     }
 
     // Whether some two vertices are joined in one direction alone. Reads the table.
     fn has_one_way(&self) -> bool
         ensures { result ≡ one_way (graph_in self.now) }
     {
-        for u in 0..self.n {
-            if self.row_one_way(u) {
-                return true;
-            }
-        }
-        false
+        (0..self.n).any(|u| self.row_one_way(u))
     }
 
     // Whether some entry of a list of n degrees is not the degree of its vertex. Reads the rows and the list up to the first that is not.
@@ -65,12 +50,10 @@ impl<'a> Table<'a> {
         requires { length degrees.now ≡ self.now.n }
         ensures { result ≡ any self.now.n (λ v. not (eqb (get_or degrees.now v 0) (degree (graph_in self.now) v))) }
     {
-        for v in 0..self.n {
-            if usize::from(degrees[v]) != self.degree(v) {
-                return true;
-            }
-        }
-        false
+        degrees
+            .iter()
+            .enumerate()
+            .any(|(v, degree)| usize::from(*degree) != self.degree(v))
     }
 
     // The table of a graph on n vertices that bytes of any number and contents hold, for any n, or its refusal: 1 to 5 of document 01, "Turned back by the

@@ -9,7 +9,11 @@ use crate::table::Table;
 fn ones(row: &[u8]) -> usize
     ensures { result ≡ count_by (λ byte. byte == 1) row.now }
 {
-    row.iter().filter(|byte| **byte == 1).count()
+    let mut sum = 0;
+    for byte in row {
+        sum += usize::from(*byte == 1);
+    }
+    sum
 }
 
 impl Table<'_> {
@@ -36,8 +40,8 @@ impl Table<'_> {
         requires { length degrees.old ≡ self.now.n }
         ensures { degrees.new ≡ degree_list (graph_in self.now) }
     {
-        for u in 0..self.n {
-            degrees[u] = self.degree(u) as u16;
+        for (u, degree) in degrees.iter_mut().enumerate() {
+            *degree = self.degree(u) as u16;
         }
     }
 }

@@ -63,10 +63,9 @@ pub record InputPassed (n : ℕ) (t d : List ℕ) (q : code.Settings) (bytes wor
   pub long : bytes ≡ n
   pub enough : 8 * n ≤ work
 
--- the same of the graph that the call made of its table and list
-pub record InputHeld (l : Lent) (q : code.Settings) (bytes work : ℕ) : Type 0 where
+-- the same of the graph that the call made of its table and list; the factor's bound is a fact of its criterion
+pub record InputHeld (l : Lent) (bytes work : ℕ) : Type 0 where
   pub simple : Simple (graph_in l.table)
-  pub factor : FactorFits q
   pub long : bytes ≡ l.table.n
   pub enough : 8 * l.table.n ≤ work
 
@@ -82,13 +81,12 @@ input_passed n t d q bytes work e =
     }
 
 -- and the graph that it made has it too
-pub input_held : {n : ℕ} {t d : List ℕ} {q : code.Settings} {bytes work : ℕ} (l : Lent) → LentAs n t d l → refuse_input (lent n t d) (settings_of q) bytes work ≡ 0
-    → InputHeld l q bytes work
-input_held {n} {t} {d} {q} {bytes} {work} l h e =
-    let p = input_passed n t d q bytes work e in
+pub input_held : {n : ℕ} {t d : List ℕ} (s : Settings) {bytes work : ℕ} (l : Lent) → LentAs n t d l → refuse_input (lent n t d) s bytes work ≡ 0
+    → InputHeld l bytes work
+input_held {n} {t} {d} s {bytes} {work} l h e =
+    let a = (input_accepted_iff (lent n t d) s bytes work).0 e in
     record {
-      simple = rw (h.table.vertices, h.table.bytes) p.graph.simple;
-      factor = p.factor;
-      long = rw (h.table.vertices) p.long;
-      enough = rw (h.table.vertices) p.enough;
+      simple = rw (h.table.vertices, h.table.bytes) (lent-passed n t d a.no_fault).simple;
+      long = rw (h.table.vertices) a.long;
+      enough = rw (h.table.vertices) a.enough;
     }

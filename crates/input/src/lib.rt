@@ -5,15 +5,16 @@ ghost use Rattle.std.specs.Prelude.{◌≡◌, IfOk};
 ghost use Rattle.model.specs.Calls.{refuse_input};
 ghost use Rattle.refusal.specs.Numbers.{fault};
 ghost use Rattle.graph.specs.Table.{lent};
-ghost use Rattle.graph.specs.Given.{LentAs};
 ghost use Rattle.isolation.specs.Numbers.{settings_of};
+ghost use Rattle.input.specs.Given.{InputAs};
 
 use graph::Lent;
-use isolation::Settings;
+use isolation::{Criterion, Settings};
 use refusal::Refusal;
 
-// The graph that a table, a list of degrees and n hold, for a call with settings, a position or set of `bytes` bytes and a work slice of `work` entries, or
-// the refusal: 1 to 5 of the table, 42 of the list, 6 to 8 of the settings, 9 and 10 of the two lengths, in this order. Reads the table and the list.
+// The graph that a table, a list of degrees and n hold and the criterion of the settings, for a call with a position or set of `bytes` bytes and a work slice
+// of `work` entries, or the refusal: 1 to 5 of the table, 42 of the list, 6 to 8 of the settings, 9 and 10 of the two lengths, in this order. Reads the table
+// and the list.
 pub fn lent_input<'a>(
     table: &'a [u8],
     degrees: &'a [u16],
@@ -21,17 +22,17 @@ pub fn lent_input<'a>(
     s: Settings,
     bytes: usize,
     work: usize,
-) -> Result<Lent<'a>, Refusal>
+) -> Result<(Lent<'a>, Criterion), Refusal>
     ensures refused { fault result ≡ refuse_input (lent n table.now degrees.now) (settings_of s) bytes work }
-    ensures held { IfOk result (LentAs n table.now degrees.now) }
+    ensures held { IfOk result (InputAs n table.now degrees.now s) }
 {
     let lent = Lent::new(table, degrees, n)?;
-    s.check()?;
+    let criterion = s.check()?;
     if bytes != n {
         return Err(Refusal::BytesLength);
     }
     if work < 8 * n {
         return Err(Refusal::WorkLength);
     }
-    Ok(lent)
+    Ok((lent, criterion))
 }

@@ -1,3 +1,3 @@
--- The laws that the proofs of this crate, and of the calls above it, cite: the tests by notion, and the refusals of settings.
+-- The laws that the proofs of this crate, and of the calls above it, cite: what the numbers of settings are read as, and their refusals.
 pub mod Notions
 pub mod Refusals

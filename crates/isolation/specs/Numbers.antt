@@ -1,6 +1,6 @@
--- The settings and a set's numbers as code hands them on, and the tests of `Rattle.theory.specs.Search` over them.
+-- The settings, the criterion and a set's numbers as code hands them on, and the tests of `Rattle.theory.specs.Search` over them.
 -- Assumes nothing.
-use Rattle.std.specs.Prelude.{ℕ, zero, suc, ◌+◌, ◌≤◌, min, max, Bool, List}
+use Rattle.std.specs.Prelude.{ℕ, zero, suc, ◌+◌, ◌≤◌, ◌≡◌, min, max, Bool, List}
 use Rattle.model.specs.Graph.{Graph}
 use Rattle.model.specs.Groups as groups
 use Rattle.theory.specs.Search as search
@@ -9,6 +9,7 @@ use Rattle.isolation.specs.declared.Kind.TheVariants.{MaximalIsolated, IsolatedM
 use Rattle.isolation.specs.declared.Notion.{Notion}
 use Rattle.isolation.specs.declared.Notion.TheVariants.{Min, Avg, Max}
 use Rattle.isolation.specs.declared.Settings.{Settings}
+use Rattle.isolation.specs.declared.criterion.Criterion.{Criterion}
 use Rattle.isolation.specs.declared.Tally.{Tally}
 
 -- the settings of document 01
@@ -35,26 +36,42 @@ with_member t d = record { members = t.members + 1; sum = t.sum + d; least = min
 unfoldable pub FactorFits : Settings → Type 0
 FactorFits s = s.factor ≤ 1024
 
--- what keeps the sums and products of a test small: the factor fits, and the number of members is at most 1,024
-pub record Small (s : Settings) (k : ℕ) : Type 0 where
-  pub factor : FactorFits s
-  pub members : k ≤ 1024
+-- the criterion has the notion, the kind and the factor that stand in the settings
+pub record CriterionOf (s : Settings) (q : Criterion) : Type 0 where
+  pub notion : q.notion ≡ notion_of s.notion
+  pub kind : q.kind ≡ kind_of s.kind
+  pub factor : q.factor ≡ s.factor
+
+-- the number of a notion in document 01
+abbrev pub notion_number : Notion → ℕ
+notion_number Min = 0
+notion_number Avg = 1
+notion_number Max = 2
+
+-- the number of a kind in document 01
+abbrev pub kind_number : Kind → ℕ
+kind_number MaximalIsolated = 0
+kind_number IsolatedMaximal = 1
+
+-- the settings of document 01 that a criterion stands for
+abbrev pub settings_in : Criterion → groups.Settings
+settings_in q = record { notion = notion_number q.notion; kind = kind_number q.kind; factor = q.factor }
 
 -- the isolation test of a clique with these numbers
-abbrev pub isolated_of : Settings → Tally → Bool
-isolated_of s t = search.isolated_by s.notion (settings_of s).factor t.members t.sum t.least t.largest
+abbrev pub isolated_of : Criterion → Tally → Bool
+isolated_of q t = search.isolated_by (settings_in q).notion (settings_in q).factor t.members t.sum t.least t.largest
 
 -- no superset within r further candidates is isolated
-abbrev pub hopeless_of : Settings → Tally → ℕ → Bool
-hopeless_of s t r = search.hopeless s.notion (settings_of s).factor t.members r t.sum t.largest
+abbrev pub hopeless_of : Criterion → Tally → ℕ → Bool
+hopeless_of q t r = search.hopeless (settings_in q).notion (settings_in q).factor t.members r t.sum t.largest
 
 -- the search that leaves a hopeless branch
-abbrev pub find_of : Graph → Settings → List ℕ → Tally → List ℕ → Bool
-find_of G s added t vs = search.find_cut G s.notion (settings_of s).factor added t.members t.sum t.least t.largest vs
+abbrev pub find_of : Graph → Criterion → List ℕ → Tally → List ℕ → Bool
+find_of G q added t vs = search.find_cut G (settings_in q).notion (settings_in q).factor added t.members t.sum t.least t.largest vs
 
 -- whether an isolated clique with these numbers and the candidates vs is not maximal
-abbrev pub beaten_of : Graph → Settings → Tally → List ℕ → Bool
-beaten_of G s t vs = search.beaten G s.kind s.notion (settings_of s).factor t.members t.sum t.least t.largest vs
+abbrev pub beaten_of : Graph → Criterion → Tally → List ℕ → Bool
+beaten_of G q t vs = search.beaten G (settings_in q).kind (settings_in q).notion (settings_in q).factor t.members t.sum t.least t.largest vs
 
 -- the numbers are those of the set
 abbrev pub TallyOf : Graph → groups.VertexSet → Tally → Type 0

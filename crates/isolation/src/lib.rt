@@ -1,12 +1,14 @@
-// The settings of a call, and the isolation test over a set's numbers.
+// The settings of a call, the criterion that they are read as, and a set's numbers.
 #![tactic(auto)]
 
-ghost use Rattle.std.specs.Prelude.{◌≡◌, ◌+◌, ◌≤◌};
-ghost use Rattle.model.specs.Groups.{within};
+ghost use Rattle.std.specs.Prelude.{◌≡◌, ◌≤◌, IfOk};
 ghost use Rattle.model.specs.Calls.{refuse_settings};
 ghost use Rattle.refusal.specs.Numbers.{fault};
-ghost use Rattle.isolation.specs.Numbers.{settings_of, notion_of, kind_of, with_member, Small, isolated_of, hopeless_of};
+ghost use Rattle.isolation.specs.Numbers.{settings_of, settings_in, notion_of, kind_of, with_member, FactorFits, CriterionOf};
 
+pub mod criterion;
+
+pub use crate::criterion::Criterion;
 use refusal::Refusal;
 
 // What is held against the factor c, document 002, section 2.1: of the members' outside counts the least, their sum, or the largest.
@@ -25,7 +27,8 @@ pub enum Kind {
 }
 
 // What a call fixes beside the graph: notion 0 min, 1 avg, 2 max; kind 0 maximal isolated, 1 isolated maximal; the factor c. They are numbers, not
-// the enums above: C hands over any numbers, and the refusals 6 to 8 of them come only after those of the graph.
+// the enums above: C hands over any numbers, and the refusals 6 to 8 of them come only after those of the graph. Settings that are not refused are read as
+// a `Criterion`.
 #[derive(Clone, Copy, Debug, PartialEq, Eq)]
 pub struct Settings {
     pub notion: u32,
@@ -67,9 +70,22 @@ impl Settings {
         }
     }
 
-    // The refusal of any settings: 6 to 8 of document 01, "Turned back by the input", lowest number first, and none where all three tests pass.
-    pub fn check(self) -> Result<(), Refusal>
-        ensures { fault result ≡ refuse_settings (settings_of self) }
+    // The criterion that settings with any notion and kind numbers are read as.
+    pub fn criterion(self) -> Criterion
+        requires { FactorFits self }
+        ensures { CriterionOf self result }
+    {
+        Criterion {
+            notion: self.notion(),
+            kind: self.kind(),
+            factor: self.factor,
+        }
+    }
+
+    // The criterion of settings that pass, or the refusal of the others: 6 to 8 of document 01, "Turned back by the input", lowest number first.
+    pub fn check(self) -> Result<Criterion, Refusal>
+        ensures refused { fault result ≡ refuse_settings (settings_of self) }
+        ensures held { IfOk result (λ q. settings_in q ≡ settings_of self) }
     {
         if 2 < self.notion {
             return Err(Refusal::Notion);
@@ -80,46 +96,7 @@ impl Settings {
         if self.factor == 0 || LARGEST_FACTOR < self.factor {
             return Err(Refusal::Factor);
         }
-        Ok(())
-    }
-
-    // Whether x is less than c × k, c being the factor: the one comparison with it. Document 002, section 2.1: "less than", never "at most".
-    pub fn within(self, k: usize, x: usize) -> bool
-        requires { Small self k }
-        ensures { result ≡ within (settings_of self).factor k x }
-    {
-        // The library, as Rust's, has no From that leads from u32 to usize.
-        let bound = (self.factor as usize) * k;
-        x < bound
-    }
-
-    // The isolation test of a clique with the numbers t, a member of degree d having d - (k - 1) neighbours outside the k members. Document 002,
-    // section 2.1: min, at least one member has less than c of them; avg, there are less than c × k in all; max, every member has less than c.
-    pub fn isolates(self, t: Tally) -> bool
-        requires { Small self t.members }
-        ensures { result ≡ isolated_of self t }
-    {
-        let others = t.members.saturating_sub(1);
-        match self.notion() {
-            Notion::Min => self.within(1, t.least.saturating_sub(others)),
-            Notion::Avg => self.within(t.members, t.sum.saturating_sub(t.members * others)),
-            Notion::Max => self.within(1, t.largest.saturating_sub(others)),
-        }
-    }
-
-    // Whether no superset of a set with the numbers t, within r further candidates, is isolated: each member loses at most r more of its neighbours
-    // outside. Under min it says no.
-    pub fn hopeless(self, t: Tally, r: usize) -> bool
-        requires { Small self (t.members + r) }
-        ensures { result ≡ hopeless_of self t r }
-    {
-        let all = t.members + r;
-        let most = all.saturating_sub(1);
-        match self.notion() {
-            Notion::Min => false,
-            Notion::Avg => !self.within(all, t.sum.saturating_sub(t.members * most)),
-            Notion::Max => !self.within(1, t.largest.saturating_sub(most)),
-        }
+        Ok(self.criterion())
     }
 }
 

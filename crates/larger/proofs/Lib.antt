@@ -1,4 +1,3 @@
--- The laws that the proofs of this crate cite: joined to all in a part, the search candidate by candidate, and the ways to be maximal.
-pub mod Joined
+-- The laws that the proofs of this crate cite: the search candidate by candidate, and the ways to be maximal.
 pub mod Searching
 pub mod Maximal

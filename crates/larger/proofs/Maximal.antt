@@ -3,25 +3,30 @@
 use Prim.Native.Nat.{ℕ, zero, suc, ◌+◌, ◌-◌, ◌*◌, ◌≤◌, zero-le}
 use mathlib.Core.Path.{◌≡◌, refl, sym, ap, ◌∙◌}
 use mathlib.Core.Bool.{Bool, true, false, cond}
-use mathlib.Core.List.{List, []}
+use mathlib.Core.List.{List, [], ◌∷◌, ◌++◌}
 use mathlib.Core.Logic.{◌≢◌}
 use native.Mathlib.Omega.{arith}
 use lib.ListN.{length}
 use lib.Dec.{ltb}
+use Rattle.std.specs.Prelude.{min, max}
 use Rattle.model.specs.Below.{bit, count}
 use Rattle.model.specs.Graph.{Graph, degree}
-use Rattle.model.specs.Groups.{VertexSet, size_of}
-use Rattle.theory.specs.Search.{gather, degree_sum, find_larger, searched, beaten}
+use Rattle.model.specs.Groups.{Factor, VertexSet, size_of}
+use Rattle.theory.specs.Search.{gather, degree_sum, find, find_larger, searched, beaten}
 use Rattle.theory.proofs.Graph.Degrees.{degree_le}
 use Rattle.theory.proofs.Search.Cut.{search_cut}
 use Rattle.isolation.specs.declared.Settings.{Settings}
+use Rattle.isolation.specs.declared.criterion.Criterion.{Criterion}
+use Rattle.isolation.specs.declared.Kind.{Kind}
+use Rattle.isolation.specs.declared.Notion.{Notion}
 use Rattle.isolation.specs.declared.Tally.{Tally}
-use Rattle.isolation.specs.declared.Kind.TheVariants.{IsolatedMaximal}
-use Rattle.isolation.specs.declared.Notion.TheVariants.{Min}
-use Rattle.isolation.specs.contracts.Kind as Kind
-use Rattle.isolation.specs.contracts.Notion as Notion
+use Rattle.isolation.specs.declared.Kind.TheVariants.{MaximalIsolated, IsolatedMaximal}
+use Rattle.isolation.specs.declared.Notion.TheVariants.{Min, Avg, Max}
+use Rattle.isolation.specs.contracts.Kind as kinds
+use Rattle.isolation.specs.contracts.Notion as notions
 use denote.Enum.Bare.{sameb}
-use Rattle.isolation.specs.Numbers.{kind_of, notion_of, find_of, beaten_of}
+use Rattle.isolation.specs.Numbers.{kind_of, notion_of, kind_number, notion_number, CriterionOf, find_of, beaten_of}
+use Rattle.isolation.proofs.Notions.{isolated-read}
 use Rattle.theory.specs.Parts.{part}
 use Rattle.larger.specs.Search.{Room, Searched, Posed, Tested}
 use Rattle.theory.proofs.Basics.Parts.{part_length, part_at, state-none}
@@ -40,47 +45,78 @@ sum-small : (G : Graph) (S : VertexSet) → G.size ≤ 1024 → degree_sum G S �
 unfolding degree_sum size_of
 sum-small G S h = gather-small G.size S (degree G) (λ i. let l = degree_le G i in omega arith)
 
-module _ (G : Graph) (s : Settings) (y : Tally) (vs : List ℕ) where
-  by_neighbour : (b : Bool) → searched s.kind s.notion ≡ b → b ≡ false → beaten_of G s y vs ≡ ltb 0 (length vs)
+module _ (G : Graph) (q : Criterion) (y : Tally) (vs : List ℕ) where
+  -- a common neighbour decides, where no search is wanted
+  by_neighbour : searched (kind_number q.kind) (notion_number q.notion) ≡ false → beaten_of G q y vs ≡ ltb 0 (length vs)
   unfolding beaten
-  by_neighbour b e f = rw (e ∙ f)
+  by_neighbour e = rw e refl
 
-  pub beaten-kind : s.kind ≢ 0 → beaten_of G s y vs ≡ ltb 0 (length vs)
+  -- of the kind isolated maximal
+  pub beaten-kind : q.kind ≡ IsolatedMaximal → beaten_of G q y vs ≡ ltb 0 (length vs)
   unfolding searched
-  beaten-kind d = by_neighbour _ refl (go s.kind s.notion d)
+  beaten-kind e = by_neighbour (rw e refl)
+
+  -- under min, of either kind
+  pub beaten-min : q.notion ≡ Min → beaten_of G q y vs ≡ ltb 0 (length vs)
+  unfolding searched
+  beaten-min e = by_neighbour (rw e (go q.kind))
     where
-      go : (kind notion : ℕ) → kind ≢ 0 → searched kind notion ≡ false
-      go zero notion d = absurd (d refl)
-      go (suc k) notion d = refl
+      go : (kind : Kind) → searched (kind_number kind) 0 ≡ false
+      go MaximalIsolated = refl
+      go IsolatedMaximal = refl
 
-  pub beaten-min : s.kind ≡ 0 → s.notion ≡ 0 → beaten_of G s y vs ≡ ltb 0 (length vs)
-  unfolding searched
-  beaten-min e f = by_neighbour _ refl (rw (e, f))
-
-  pub beaten_search : s.kind ≡ 0 → s.notion ≢ 0
-      → beaten_of G s y vs ≡ find_larger G s.notion s.factor [] y.members y.sum y.least y.largest vs
+  -- a larger isolated clique is searched for
+  pub beaten_search : q.kind ≡ MaximalIsolated → q.notion ≢ Min
+      → beaten_of G q y vs ≡ find_larger G (notion_number q.notion) q.factor [] y.members y.sum y.least y.largest vs
   unfolding beaten searched
-  beaten_search e d = rw (go s.kind s.notion e d)
+  beaten_search e d = rw (e, go q.notion d) refl
     where
-      go : (kind notion : ℕ) → kind ≡ 0 → notion ≢ 0 → searched kind notion ≡ true
-      go zero zero e d = absurd (d refl)
-      go zero (suc m) e d = refl
-      go (suc k) notion e d = absurd (omega arith)
+      go : (notion : Notion) → notion ≢ Min → searched 0 (notion_number notion) ≡ true
+      go Min d = absurd (d refl)
+      go Avg d = refl
+      go Max d = refl
+
+-- ---- every number, as it is read
+
+-- the search by the notion that a number is read as is that by the number
+find-read : (G : Graph) (m : ℕ) (c : Factor) (added : List ℕ) (k sum least largest : ℕ) (vs : List ℕ)
+    → find_larger G (notion_number (notion_of m)) c added k sum least largest vs ≡ find_larger G m c added k sum least largest vs
+unfolding find
+find-read G m c added k sum least largest [] = refl
+find-read G m c added k sum least largest (v ∷ vs) =
+    let d = degree G v in
+    rw (isolated-read m c (k + 1) (sum + d) (min least d) (max largest d), find-read G m c (added ++ (v ∷ [])) (k + 1) (sum + d) (min least d) (max largest d) vs, find-read G m c added k sum least largest vs) refl
+
+-- whether a search is wanted too
+searched-read : (kind notion : ℕ) → searched (kind_number (kind_of kind)) (notion_number (notion_of notion)) ≡ searched kind notion
+unfolding searched
+searched-read zero zero = refl
+searched-read zero (suc zero) = refl
+searched-read zero (suc (suc m)) = refl
+searched-read (suc k) notion = refl
+
+-- so the criterion that settings of any numbers are read as finds maximal what they do
+pub beaten-any : (G : Graph) (s : Settings) (q : Criterion) → CriterionOf s q → (y : Tally) (vs : List ℕ)
+    → beaten_of G q y vs ≡ beaten G s.kind s.notion s.factor y.members y.sum y.least y.largest vs
+unfolding beaten
+beaten-any G s q read y vs =
+    rw (read.kind, read.notion, read.factor, searched-read s.kind s.notion, find-read G s.notion s.factor [] y.members y.sum y.least y.largest vs) refl
 
 -- ---- the tests of the code
 
 -- the kind is isolated maximal, or it is not
-pub kind-test : (k : ℕ) {b : Bool} → b ≡ sameb Kind.the_type (kind_of k) IsolatedMaximal → (b ≡ true → k ≢ 0) × (b ≡ false → k ≡ 0)
-kind-test zero e = (λ t. cc, λ f. refl)
-kind-test (suc k) e = (λ t q. omega arith, λ f. cc)
+pub kind-test : (kind : Kind) {b : Bool} → b ≡ sameb kinds.the_type kind IsolatedMaximal
+    → (b ≡ true → kind ≡ IsolatedMaximal) × (b ≡ false → kind ≡ MaximalIsolated)
+kind-test MaximalIsolated e = (λ t. cc, λ f. refl)
+kind-test IsolatedMaximal e = (λ t. refl, λ f. cc)
 
 -- the notion is min, or it is not
-pub notion-test : (m : ℕ) {b : Bool} → b ≡ sameb Notion.the_type (notion_of m) Min → (b ≡ true → m ≡ 0) × (b ≡ false → m ≢ 0)
-notion-test zero e = (λ t. refl, λ f. cc)
-notion-test (suc zero) e = (λ t. cc, λ f q. omega arith)
-notion-test (suc (suc m)) e = (λ t. cc, λ f q. omega arith)
+pub notion-test : (notion : Notion) {b : Bool} → b ≡ sameb notions.the_type notion Min → (b ≡ true → notion ≡ Min) × (b ≡ false → notion ≢ Min)
+notion-test Min e = (λ t. refl, λ f. cc)
+notion-test Avg e = (λ t. cc, λ f h. cc)
+notion-test Max e = (λ t. cc, λ f h. cc)
 
-module _ {G : Graph} {w : List ℕ} {s : Settings} {y : Tally} {m : ℕ} (small : G.size ≤ 1024) (parts : 4 * G.size ≤ length w) (posed : Posed G w s y m) where
+module _ {G : Graph} {w : List ℕ} {q : Criterion} {y : Tally} {m : ℕ} (small : G.size ≤ 1024) (parts : 4 * G.size ≤ length w) (posed : Posed G w q y m) where
   abbrev n : ℕ
   n = G.size
 
@@ -88,10 +124,9 @@ module _ {G : Graph} {w : List ℕ} {s : Settings} {y : Tally} {m : ℕ} (small 
   all-candidates = let f = posed.room in part_length w (3 * n) m (omega arith)
 
   -- room for a search with nothing added
-  pub posed_room : Room n w s y y.members 0 m
+  pub posed_room : Room n w q y y.members 0 m
   posed_room =
       record {
-        factor = posed.factor;
         from = omega arith;
         left = omega arith;
         few = omega arith;
@@ -107,15 +142,15 @@ module _ {G : Graph} {w : List ℕ} {s : Settings} {y : Tally} {m : ℕ} (small 
       }
 
   -- the search says what `beaten` asks for
-  pub by_search : s.kind ≡ 0 → s.notion ≢ 0 → {w₁ : List ℕ} {r : Bool} → Searched G w w₁ s y y.members 0 m r → Tested G w w₁ s y m r
+  pub by_search : q.kind ≡ MaximalIsolated → q.notion ≢ Min → {w₁ : List ℕ} {r : Bool} → Searched G w w₁ q y y.members 0 m r → Tested G w w₁ q y m r
   by_search e d {w₁} {r} found =
       record {
         answer =
             found.answer
-            ∙ ap (λ (k : ℕ). find_of G s (part w (n + y.members) k) y (part w (3 * n) m)) none
-            ∙ search_cut G posed.loopless posed.symmetric s.notion s.factor posed.set posed.clique (part w (3 * n) m)
+            ∙ ap (λ (k : ℕ). find_of G q (part w (n + y.members) k) y (part w (3 * n) m)) none
+            ∙ search_cut G posed.loopless posed.symmetric (notion_number q.notion) q.factor posed.set posed.clique (part w (3 * n) m)
             posed.candidates y.members y.sum y.least y.largest posed.tally
-            ∙ sym (beaten_search G s y (part w (3 * n) m) e d);
+            ∙ sym (beaten_search G q y (part w (3 * n) m) e d);
         kept = found.kept.state;
       }
     where
@@ -123,11 +158,11 @@ module _ {G : Graph} {w : List ℕ} {s : Settings} {y : Tally} {m : ℕ} (small 
       none = omega arith
 
   -- a common neighbour decides
-  by_length : (r : Bool) → ltb 0 m ≡ r → beaten_of G s y (part w (3 * n) m) ≡ ltb 0 (length (part w (3 * n) m)) → Tested G w w s y m r
+  by_length : (r : Bool) → ltb 0 m ≡ r → beaten_of G q y (part w (3 * n) m) ≡ ltb 0 (length (part w (3 * n) m)) → Tested G w w q y m r
   by_length r e f = record { answer = sym e ∙ ap (ltb 0) (sym all-candidates) ∙ sym f; kept = state-none }
 
-  pub by_kind : s.kind ≢ 0 → {r : Bool} → ltb 0 m ≡ r → Tested G w w s y m r
-  by_kind d e = by_length _ e (beaten-kind G s y (part w (3 * n) m) d)
+  pub by_kind : q.kind ≡ IsolatedMaximal → {r : Bool} → ltb 0 m ≡ r → Tested G w w q y m r
+  by_kind d e = by_length _ e (beaten-kind G q y (part w (3 * n) m) d)
 
-  pub by_min : s.kind ≡ 0 → s.notion ≡ 0 → {r : Bool} → ltb 0 m ≡ r → Tested G w w s y m r
-  by_min k e f = by_length _ f (beaten-min G s y (part w (3 * n) m) k e)
+  pub by_min : q.notion ≡ Min → {r : Bool} → ltb 0 m ≡ r → Tested G w w q y m r
+  by_min d e = by_length _ e (beaten-min G q y (part w (3 * n) m) d)

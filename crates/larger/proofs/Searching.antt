@@ -13,7 +13,7 @@ use Rattle.model.specs.Graph.{Graph, degree}
 use Rattle.theory.specs.Search.{joined_all}
 use Rattle.theory.proofs.Basics.Tests.{trichotomy}
 use Rattle.theory.proofs.Search.Steps.{cut_end, cut-hopeless, cut_apart, cut_here, cut_deeper, cut-next}
-use Rattle.isolation.specs.declared.Settings.{Settings}
+use Rattle.isolation.specs.declared.criterion.Criterion.{Criterion}
 use Rattle.isolation.specs.declared.Tally.{Tally}
 use Rattle.isolation.specs.Numbers.{with_member, isolated_of, hopeless_of, find_of}
 use Rattle.theory.specs.Parts.{part, members_at, candidates_at, SamePart}
@@ -28,19 +28,19 @@ abbrev pub candidates_in : ℕ → List ℕ → ℕ → List ℕ
 candidates_in n w m = part w (candidates_at n) m
 
 -- before candidate j: what the search says from i on it says from j on, and what it keeps is as it was
-pub record At (G : Graph) (w₀ : List ℕ) (s : Settings) (y : Tally) (base i m : ℕ) (w : List ℕ) (j : ℕ) : Type 0 where
+pub record At (G : Graph) (w₀ : List ℕ) (q : Criterion) (y : Tally) (base i m : ℕ) (w : List ℕ) (j : ℕ) : Type 0 where
   pub small : G.size ≤ 1024
   pub parts : 4 * G.size ≤ length w₀
-  pub room : Room G.size w₀ s y base i m
+  pub room : Room G.size w₀ q y base i m
   pub from : i ≤ j
   pub kept : SearchKept G.size y.members m w₀ w
-  pub same : find_of G s (added_in G.size w₀ y base) y (drop i (candidates_in G.size w₀ m)) ≡ find_of G s (added_in G.size w₀ y base) y (drop j (candidates_in G.size w₀ m))
+  pub same : find_of G q (added_in G.size w₀ y base) y (drop i (candidates_in G.size w₀ m)) ≡ find_of G q (added_in G.size w₀ y base) y (drop j (candidates_in G.size w₀ m))
 
-module _ {G : Graph} {w₀ : List ℕ} {s : Settings} {y : Tally} {base i m : ℕ} {w : List ℕ} {j : ℕ} (at : At G w₀ s y base i m w j) where
+module _ {G : Graph} {w₀ : List ℕ} {q : Criterion} {y : Tally} {base i m : ℕ} {w : List ℕ} {j : ℕ} (at : At G w₀ q y base i m w j) where
   abbrev n : ℕ
   n = G.size
 
-  abbrev room : Room n w₀ s y base i m
+  abbrev room : Room n w₀ q y base i m
   room = at.room
 
   abbrev added : List ℕ
@@ -57,16 +57,16 @@ module _ {G : Graph} {w₀ : List ℕ} {s : Settings} {y : Tally} {base i m : �
   all-candidates = let l = at.parts in let f = room.few in part_length w₀ (3 * n) m (omega arith)
 
   -- what the search says from j on is its answer
-  says : {w₁ : List ℕ} {r : Bool} → SearchKept n y.members m w₀ w₁ → find_of G s added y (drop j candidates) ≡ r → Searched G w₀ w₁ s y base i m r
+  says : {w₁ : List ℕ} {r : Bool} → SearchKept n y.members m w₀ w₁ → find_of G q added y (drop j candidates) ≡ r → Searched G w₀ w₁ q y base i m r
   says k e = record { answer = sym (at.same ∙ e); kept = k }
 
   -- and where it says that from the next on too, candidate j is passed over
-  passes : {w₁ : List ℕ} → SearchKept n y.members m w₀ w₁ → find_of G s added y (drop j candidates) ≡ find_of G s added y (drop (j + 1) candidates)
-      → At G w₀ s y base i m w₁ (j + 1)
+  passes : {w₁ : List ℕ} → SearchKept n y.members m w₀ w₁ → find_of G q added y (drop j candidates) ≡ find_of G q added y (drop (j + 1) candidates)
+      → At G w₀ q y base i m w₁ (j + 1)
   passes k e = record { small = at.small; parts = at.parts; room = room; from = omega arith; kept = k; same = at.same ∙ e }
 
   -- with no candidate left
-  pub at_end : m ≤ j → Searched G w₀ w s y base i m false
+  pub at_end : m ≤ j → Searched G w₀ w q y base i m false
   at_end h = says at.kept (cut_end _ _ _ _ _ _ _ _ candidates j (let l = all-candidates in omega arith))
 
   -- those added still stand where they stood
@@ -93,8 +93,8 @@ module _ {G : Graph} {w₀ : List ℕ} {s : Settings} {y : Tally} {base i m : �
     left = let l = all-candidates in omega arith
 
     -- left, where nothing larger is isolated
-    pub at_hopeless : hopeless_of s y (m - j) ≡ true → Searched G w₀ w s y base i m false
-    at_hopeless e = says at.kept (cut-hopeless _ _ _ _ _ _ _ _ candidates j in_list (ap (λ (r : ℕ). hopeless_of s y r) left ∙ e))
+    pub at_hopeless : hopeless_of q y (m - j) ≡ true → Searched G w₀ w q y base i m false
+    at_hopeless e = says at.kept (cut-hopeless _ _ _ _ _ _ _ _ candidates j in_list (ap (λ (r : ℕ). hopeless_of q y r) left ∙ e))
 
     -- candidate j is read
     module _ {v : ℕ} (read : v ≡ get_or w (3 * n + j) 0) where
@@ -104,22 +104,22 @@ module _ {G : Graph} {w₀ : List ℕ} {s : Settings} {y : Tally} {base i m : �
       pub candidate_vertex : v < n
       candidate_vertex = let k = at.kept.candidates j inside in let l = room.candidates j inside in omega arith
 
-      module _ (hope : hopeless_of s y (m - j) ≡ false) where
-        hope_left : hopeless_of s y (length candidates - j) ≡ false
-        hope_left = ap (λ (r : ℕ). hopeless_of s y r) left ∙ hope
+      module _ (hope : hopeless_of q y (m - j) ≡ false) where
+        hope_left : hopeless_of q y (length candidates - j) ≡ false
+        hope_left = ap (λ (r : ℕ). hopeless_of q y r) left ∙ hope
 
         joined_is : (b : Bool) → b ≡ joins-added v → joined_all G (get_or candidates j 0) added ≡ b
         joined_is b e = ap (λ (u : ℕ). joined_all G u added) is_candidate ∙ ap (joined_all G v) (sym still_added) ∙ sym e
 
         -- passed over, where it is not joined to those added
-        pub at_apart : false ≡ joins-added v → At G w₀ s y base i m w (j + 1)
+        pub at_apart : false ≡ joins-added v → At G w₀ q y base i m w (j + 1)
         at_apart e = passes at.kept (cut_apart _ _ _ _ _ _ _ _ candidates j in_list hope_left (joined_is false e))
 
   -- candidate j, read as v and of degree d, is added: it is there, a set with the candidates left may be isolated, it is joined to those added, and z has
   -- the numbers with it
   pub record Adds (v d : ℕ) (z : Tally) : Type 0 where
     pub inside : j < m
-    pub hope : hopeless_of s y (m - j) ≡ false
+    pub hope : hopeless_of q y (m - j) ≡ false
     pub read : v ≡ get_or w (3 * n + j) 0
     pub joins : true ≡ joins-added v
     pub degree : (d ≡ degree G v) × (d ≤ n)
@@ -135,17 +135,17 @@ module _ {G : Graph} {w₀ : List ℕ} {s : Settings} {y : Tally} {base i m : �
     with_degree_lem : z ≡ with_member y (degree G (get_or candidates j 0))
     with_degree_lem = adds.more ∙ ap (with_member y) (adds.degree.0 ∙ ap (degree G) (sym (is_candidate inside adds.read)))
 
-    hopeful : hopeless_of s y (length candidates - j) ≡ false
+    hopeful : hopeless_of q y (length candidates - j) ≡ false
     hopeful = hope_left inside adds.read adds.hope
 
     joined : joined_all G (get_or candidates j 0) added ≡ true
     joined = joined_is inside adds.read adds.hope true adds.joins
 
     -- found, where the set with it is isolated
-    pub at_here : true ≡ isolated_of s z → Searched G w₀ w s y base i m true
+    pub at_here : true ≡ isolated_of q z → Searched G w₀ w q y base i m true
     at_here e =
         says at.kept
-        (cut_here _ _ _ _ _ _ _ _ candidates j (in_list inside) hopeful joined (ap (isolated_of s) (sym with_degree_lem) ∙ sym e))
+        (cut_here _ _ _ _ _ _ _ _ candidates j (in_list inside) hopeful joined (ap (isolated_of q) (sym with_degree_lem) ∙ sym e))
 
     -- the entry that is read, and the slice with it added, for the candidates after it
     abbrev entry : ℕ
@@ -170,8 +170,8 @@ module _ {G : Graph} {w₀ : List ℕ} {s : Settings} {y : Tally} {base i m : �
         let l = taken-kept.state.length-kept in
         omega arith
 
-    pub room_next : (from : ℕ) → j + 1 ≤ from → Room n taken s z base from m
-    room_next from past = subst (λ (x : Tally). Room n taken s x base from m) (sym adds.more) with_it
+    pub room_next : (from : ℕ) → j + 1 ≤ from → Room n taken q z base from m
+    room_next from past = subst (λ (x : Tally). Room n taken q x base from m) (sym adds.more) with_it
       where
         added_next : (e : ℕ) → e < y.members + 1 - base → get_or taken (n + base + e) 0 < n
         added_next e h = go (trichotomy e (y.members - base))
@@ -189,10 +189,9 @@ module _ {G : Graph} {w₀ : List ℕ} {s : Settings} {y : Tally} {base i m : �
                 rw (k, a) (rw adds.read at added-vertex)
             go (inr (inr l)) = absurd (omega arith)
 
-        with_it : Room n taken s (with_member y d) base from m
+        with_it : Room n taken q (with_member y d) base from m
         with_it =
             record {
-              factor = room.factor;
               from = omega arith;
               left = omega arith;
               few = room.few;
@@ -201,7 +200,7 @@ module _ {G : Graph} {w₀ : List ℕ} {s : Settings} {y : Tally} {base i m : �
               candidates = λ e h. let k = taken-kept.candidates e h in let l = room.candidates e h in omega arith;
             }
 
-    module _ {w₁ : List ℕ} {r : Bool} (deep : Searched G taken w₁ s z base (j + 1) m r) where
+    module _ {w₁ : List ℕ} {r : Bool} (deep : Searched G taken w₁ q z base (j + 1) m r) where
       kept_deep : SearchKept n y.members m w₀ w₁
       kept_deep =
           record {
@@ -224,22 +223,22 @@ module _ {G : Graph} {w₀ : List ℕ} {s : Settings} {y : Tally} {base i m : �
           place : n + base + (y.members - base) ≡ n + y.members
           place = omega arith
 
-      answer_deep : r ≡ find_of G s (added ++ (get_or candidates j 0 ∷ [])) (with_member y (degree G (get_or candidates j 0))) (drop (j + 1) candidates)
+      answer_deep : r ≡ find_of G q (added ++ (get_or candidates j 0 ∷ [])) (with_member y (degree G (get_or candidates j 0))) (drop (j + 1) candidates)
       answer_deep =
           deep.answer
-          ∙ ap (λ (l : List ℕ). find_of G s l z (drop (j + 1) (candidates_in n taken m))) pushed
-          ∙ ap (λ (x : Tally). find_of G s (added ++ (get_or candidates j 0 ∷ [])) x (drop (j + 1) (candidates_in n taken m))) with_degree_lem
-          ∙ ap (λ (l : List ℕ). find_of G s (added ++ (get_or candidates j 0 ∷ [])) (with_member y (degree G (get_or candidates j 0))) (drop (j + 1) l))
+          ∙ ap (λ (l : List ℕ). find_of G q l z (drop (j + 1) (candidates_in n taken m))) pushed
+          ∙ ap (λ (x : Tally). find_of G q (added ++ (get_or candidates j 0 ∷ [])) x (drop (j + 1) (candidates_in n taken m))) with_degree_lem
+          ∙ ap (λ (l : List ℕ). find_of G q (added ++ (get_or candidates j 0 ∷ [])) (with_member y (degree G (get_or candidates j 0))) (drop (j + 1) l))
           (part_same taken w₀ (3 * n) m taken-kept.state.length-kept taken-kept.candidates)
 
       -- found with it and more
-      pub at_deeper : r ≡ true → Searched G w₀ w₁ s y base i m true
+      pub at_deeper : r ≡ true → Searched G w₀ w₁ q y base i m true
       at_deeper e =
           says kept_deep
           (cut_deeper _ _ _ _ _ _ _ _ candidates j (in_list inside) hopeful joined (sym answer_deep ∙ e))
 
       -- passed over, where neither finds anything
-      pub at_next : isolated_of s z ≡ false → r ≡ false → At G w₀ s y base i m w₁ (j + 1)
+      pub at_next : isolated_of q z ≡ false → r ≡ false → At G w₀ q y base i m w₁ (j + 1)
       at_next e f =
           passes kept_deep
-          (cut-next _ _ _ _ _ _ _ _ candidates j (in_list inside) hopeful (ap (isolated_of s) (sym with_degree_lem) ∙ e) (sym answer_deep ∙ f))
+          (cut-next _ _ _ _ _ _ _ _ candidates j (in_list inside) hopeful (ap (isolated_of q) (sym with_degree_lem) ∙ e) (sym answer_deep ∙ f))

@@ -1,2 +1,3 @@
--- What the readers of a line promise.
+-- What the lines say, and what the readers of a line promise.
+pub mod Said
 pub mod Line

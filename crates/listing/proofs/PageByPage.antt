@@ -1,12 +1,11 @@
 -- Page by page: the replies so far, one more, and why this ends. Assumes nothing.
-use Prim.Native.Nat.{ℕ, zero, suc, ◌+◌, ◌*◌, ◌≤◌, ◌<◌}
+use Prim.Native.Nat.{ℕ, ◌+◌, ◌*◌, ◌≤◌, ◌<◌}
 use mathlib.Core.Path.{◌≡◌, refl, sym, ap, ap₂, ◌∙◌, subst}
 use mathlib.Core.Bool.{false}
 use mathlib.Core.Logic.{◌≢◌, inl, inr}
 use mathlib.Core.List.{List, [], ◌∷◌, ◌++◌, append_assoc}
-use native.Mathlib.Nat.{not-suc-le-zero}
 use native.Mathlib.Omega.{arith}
-use lib.ListN.{length, take, replicate}
+use lib.ListN.{length}
 use Rattle.model.specs.Groups.{Settings}
 use Rattle.model.specs.Walk.{Position, Rules, fresh, finished, page, full_sets, stopped_finished}
 use Rattle.model.specs.Listing.{rules, record_length}
@@ -31,15 +30,9 @@ use Rattle.std.specs.Prelude.{Result, Ok, Err}
 use Rattle.rounds.specs.declared.PageAnswer.{PageAnswer}
 use Rattle.rounds.specs.Answer.{PageReplies}
 use Rattle.listing.specs.declared.totals.Totals.{Totals}
-use Rattle.listing.specs.List.{lent_of, turn_call, turn_reply, Turned, ListBegins, Paged, Ran}
+use Rattle.listing.specs.List.{lent_of, turn_call, turn_reply, ListBegins, Paged, Ran}
 
 -- ---- one page
-
--- the first n of more zeros are the fresh position
-pub fresh-part : (n m : ℕ) → n ≤ m → take n (replicate m 0) ≡ fresh n
-fresh-part zero m h = refl
-fresh-part (suc n) zero h = absurd (not-suc-le-zero h)
-fresh-part (suc n) (suc m) h = ap (λ (l : List ℕ). 0 ∷ l) (fresh-part n m (omega arith))
 
 -- the used entries are within the output
 pub used-fits : {budget : ℕ} {p : Position} {out : List ℕ} {r : PageReply} {a : PageAnswer} {left after : List ℕ}
@@ -85,7 +78,7 @@ held_more a b e f = ap (λ (x : ℕ). held (x + b)) e ∙ held-add a b ∙ ap (�
 -- before the first page
 pub paged_none : {n : ℕ} {t : List ℕ} {s : Settings} {p : Position} → p ≡ fresh n → Paged n t s p (record { groups = 0; steps = 0 })
 unfolding left_at all_groups all_steps
-paged_none e = record { replies = []; chain = tt; left = sym e; totals = record { all_groups_lem = refl; all_steps_lem = refl } }
+paged_none e = record { replies = []; chain = tt; left = sym e; totals = record { groups = refl; steps = refl } }
 
 -- what the pages so far come to where the list is cut there
 paged_cut : {n : ℕ} {t : List ℕ} {s : Settings} → (lent_table n t).fault ≡ 0 → {p : Position} {l : Totals} → Paged n t s p l → Ran n t s (Err l)
@@ -108,11 +101,11 @@ paged_whole {n} {t} {s} valid paged f =
           record {
             ended = f;
             pages = pages-listed s n t valid rs c f;
-            full-groups = paged.totals.all_groups_lem ∙ ap (λ (a : ℕ). held a) (all_groups_lem s n t valid rs c f);
+            full-groups = paged.totals.groups ∙ ap (λ (a : ℕ). held a) (all_groups_lem s n t valid rs c f);
             full-steps = (
               all_steps rs,
               ((chain_demand (rules (graph_of n t) s) n (lawful (graph_of n t) (lent-simple n t valid).loopless s) rs c).whole f).1,
-              paged.totals.all_steps_lem,
+              paged.totals.steps,
             );
           };
     }
@@ -159,8 +152,8 @@ module _ {g : Lent} {s : Settings} {p₀ out₀ work₀ bytes₀ : List ℕ} (be
           chain = chain_more R reply paged.replies (fresh n) paged.chain (subst (λ (q : Position). Replied R q reply) (sym paged.left) answered);
           left = left-more paged.replies reply (fresh n);
           totals = record {
-            all_groups_lem = gs ∙ held_more (all_groups paged.replies) reply.groups paged.totals.all_groups_lem (groups-more paged.replies reply);
-            all_steps_lem = ks ∙ held_more (all_steps paged.replies) reply.steps paged.totals.all_steps_lem (steps-more paged.replies reply);
+            groups = gs ∙ held_more (all_groups paged.replies) reply.groups paged.totals.groups (groups-more paged.replies reply);
+            steps = ks ∙ held_more (all_steps paged.replies) reply.steps paged.totals.steps (steps-more paged.replies reply);
           };
         }
 
@@ -186,29 +179,29 @@ module _ {g : Lent} {s : Settings} {p₀ out₀ work₀ bytes₀ : List ℕ} (be
 -- ---- the same by what a turn leaves
 
 module _ {g : Lent} {s : Settings} {p₀ out₀ work₀ bytes₀ : List ℕ} (begins : ListBegins g s p₀ out₀ work₀ bytes₀) {p : Position} {l : Totals}
-    (paged : Paged g.table.n g.table.bytes.now s p l) {out : List ℕ} {work : ℕ} (same : work ≡ length work₀) {before left out' after : List ℕ}
-    {page : PageAnswer} {end : ℕ} (turned : Turned g s p out work before left out' after page end) where
+    (paged : Paged g.table.n g.table.bytes.now s p l) (out : List ℕ) {work : ℕ} (same : work ≡ length work₀) {left out' : List ℕ}
+    {page : PageAnswer} (replies : PageReplies page left out' (turn_reply g s p out work)) where
   roomy : 8 * g.table.n ≤ work
   roomy = rw same begins.room
 
   module _ {m : Totals} (gs : m.groups ≡ held (l.groups + page.groups)) (ks : m.steps ≡ held (l.steps + page.steps)) where
     more : Paged g.table.n g.table.bytes.now s (turn_reply g s p out work).position m
-    more = paged_more begins paged out work roomy (rw turned.replies.groups at gs) (rw turned.replies.steps at ks)
+    more = paged_more begins paged out work roomy (rw replies.groups at gs) (rw replies.steps at ks)
 
     pub turned_paged : Paged g.table.n g.table.bytes.now s left m
-    turned_paged = rw turned.replies.position more
+    turned_paged = rw replies.position more
 
     pub turned_cut : Ran g.table.n g.table.bytes.now s (Err m)
     turned_cut = paged_cut (sound begins paged out work roomy) more
 
     pub turned_whole : page.stop ≡ stopped_finished → Ran g.table.n g.table.bytes.now s (Ok m)
     unfolding more
-    turned_whole e = paged_whole (sound begins paged out work roomy) more (paged_ended begins paged out work roomy _ _ (sym turned.replies.stop ∙ e))
+    turned_whole e = paged_whole (sound begins paged out work roomy) more (paged_ended begins paged out work roomy _ _ (sym replies.stop ∙ e))
 
   pub turned_falls : length out ≡ length out₀ → page.stop ≢ stopped_finished → weight g.table.n left < weight g.table.n p
   turned_falls same_out e =
-      rw turned.replies.position
-      (paged_falls begins paged out work roomy (λ z. e (turned.replies.stop ∙ z)) (rw same_out begins.output))
+      rw replies.position
+      (paged_falls begins paged out work roomy (λ z. e (replies.stop ∙ z)) (rw same_out begins.output))
 
 lines_begin : (s : Settings) (n : ℕ) (t : List ℕ) (xs out : List ℕ) → Begins xs (group_lines (graph_of n t) (full_sets (rules (graph_of n t) s) n))
     → PrintsAt (listing s n t) out → Begins xs out
@@ -230,5 +223,5 @@ ran_begins words text s n t e ran out p =
 pub ran_prints : (words : List (List ℕ)) (text : List ℕ) (s : Settings) (n : ℕ) (t : List ℕ) → program_verdict words text ≡ listing s n t
     → {l : Totals} (ran : Ran n t s (Ok l)) → Prints words text (printed_pages ran.replies ++ end_line l.groups l.steps)
 ran_prints words text s n t e {l} ran =
-    subst (λ (x : List ℕ). Prints words text (printed_pages ran.replies ++ x)) (ap₂ end_line (sym ran.totals.all_groups_lem) (sym ran.totals.all_steps_lem))
+    subst (λ (x : List ℕ). Prints words text (printed_pages ran.replies ++ x)) (ap₂ end_line (sym ran.totals.groups) (sym ran.totals.steps))
     (pages_print words text s n t e ran.replies ran.chain ran.whole-list.ended)

@@ -1,6 +1,6 @@
 -- What the listing of a graph promises: the totals of replies to page calls, from the fresh position on, and whether one of them has said Finished.
 -- Assumes nothing.
-use Rattle.std.specs.Prelude.{ℕ, ◌*◌, ◌≤◌, ◌≡◌, true, List, length, take, Result, IfOk, MatchResult}
+use Rattle.std.specs.Prelude.{ℕ, ◌*◌, ◌≤◌, ◌≡◌, true, List, length, Result, IfOk, MatchResult}
 use Rattle.model.specs.Groups.{Settings}
 use Rattle.model.specs.Walk.{Position, fresh, lasts, full_sets}
 use Rattle.model.specs.Listing.{rules, record_length}
@@ -8,14 +8,11 @@ use Rattle.model.specs.Calls.{Call, refuse_settings, PageReply, reply_to}
 use Rattle.model.specs.Demand.{left_at, all_steps, all_groups, SomeFinished}
 use Rattle.model.specs.Program.{group_lines, held}
 use Rattle.theory.specs.Replies.{Chain}
-use Rattle.theory.specs.Printed.{printed, printed_pages, Begins}
+use Rattle.theory.specs.Printed.{printed_pages, Begins}
 use Rattle.model.specs.Graph.{LentGraph}
-use Rattle.graph.specs.Table.{lent_table, lent, graph_of}
+use Rattle.graph.specs.Table.{lent, graph_of}
 use Rattle.graph.specs.declared.lent.Lent.{Lent}
-use Rattle.rounds.specs.declared.PageAnswer.{PageAnswer}
-use Rattle.rounds.specs.Answer.{PageReplies}
 use Rattle.listing.specs.declared.totals.Totals.{Totals}
-use Rattle.print.specs.Put.{Puts}
 
 -- what is lent, as a call has it
 abbrev pub lent_of : Lent → LentGraph
@@ -29,11 +26,6 @@ turn_call g s out work = record { lent = lent_of g; settings = s; budget = 42949
 abbrev pub turn_reply : Lent → Settings → Position → List ℕ → ℕ → PageReply
 turn_reply g s p out work = reply_to (turn_call g s out work) p
 
--- a page from p leaves its position, its answer and its output, and what is printed of its used entries from the buffer's start on
-pub record Turned (g : Lent) (s : Settings) (p out : List ℕ) (work : ℕ) (bytes left out' printed' : List ℕ) (page : PageAnswer) (end : ℕ) : Type 0 where
-  pub replies : PageReplies page left out' (turn_reply g s p out work)
-  pub puts : Puts bytes 0 (printed (take page.used out')) printed' end
-
 -- a graph and settings without fault, its fresh position, and room for any record, for the work and for what is printed
 pub record ListBegins (g : Lent) (s : Settings) (p out work bytes : List ℕ) : Type 0 where
   pub no_fault : (lent_of g).fault ≡ 0
@@ -43,16 +35,10 @@ pub record ListBegins (g : Lent) (s : Settings) (p out work bytes : List ℕ) : 
   pub room : 8 * g.table.n ≤ length work
   pub buffer : 6 * length out ≤ length bytes
 
--- a graph of at most 256 vertices whose table has no fault, with settings that have none
-pub record Listable (n : ℕ) (t : List ℕ) (s : Settings) : Type 0 where
-  pub few : n ≤ 256
-  pub no_fault : (lent_table n t).fault ≡ 0
-  pub settings : refuse_settings s ≡ 0
-
 -- the totals are those of replies, held
 pub record TotalsOf (replies : List PageReply) (l : Totals) : Type 0 where
-  pub all_groups_lem : l.groups ≡ held (all_groups replies)
-  pub all_steps_lem : l.steps ≡ held (all_steps replies)
+  pub groups : l.groups ≡ held (all_groups replies)
+  pub steps : l.steps ≡ held (all_steps replies)
 
 -- replies to page calls, from fresh to the position p, with their totals held
 pub record Paged (n : ℕ) (t : List ℕ) (s : Settings) (p : Position) (l : Totals) : Type 0 where

@@ -3,39 +3,53 @@
 
 pub mod totals;
 
-ghost use Rattle.std.specs.Prelude.{◌≡◌, ◌*◌, ◌≤◌, length};
+ghost use Rattle.std.specs.Prelude.{◌≡◌, ◌*◌, ◌≤◌, length, take};
 ghost use Rattle.theory.specs.Printed.{printed};
 ghost use Rattle.isolation.specs.Numbers.{settings_of};
-ghost use Rattle.listing.specs.List.{Turned, ListBegins, Ran};
+ghost use Rattle.rounds.specs.Answer.{PageReplies};
+ghost use Rattle.listing.specs.List.{turn_reply, ListBegins, Ran};
 
 use crate::totals::Totals;
 use graph::Lent;
 use isolation::Settings;
-use print::print_entries;
+use print::Printer;
 use rounds::{PageAnswer, Stop};
 use std::io;
 
-// Writes the lines that are printed of a page's entries to standard output. No contract can speak of what a write does: what is handed to it is required.
-fn write_page(rt: &impl Print, lines: &[u8], entries: &[u16]) -> io::Result<()>
-    requires { lines.now ≡ printed entries.now }
+// Writes the lines that are printed of a page's used entries to standard output. No contract can speak of what a write does: what is handed to it is required.
+fn write_page(rt: &impl Print, lines: &[u8], page: &PageAnswer, output: &[u16]) -> io::Result<()>
+    requires { lines.now ≡ printed (take page.now.used output.now) }
 {
     rt.write_all(lines)
 }
 
-// One page with the largest budget, its used entries printed into the buffer: the page's answer, and how many bytes are printed.
+// Prints a page's used entries by way of the buffer.
+fn print_page(
+    rt: &impl Print,
+    page: &PageAnswer,
+    output: &[u16],
+    bytes: &mut [u8],
+) -> io::Result<()>
+    requires used { page.now.used ≤ length output.now }
+    requires room { 6 * length output.now ≤ length bytes.old }
+{
+    let mut printer = Printer::new(bytes);
+    printer.put_entries(&output[..page.used]);
+    write_page(rt, printer.filled(), page, output)
+}
+
+// One page with the largest budget.
 fn one_page(
     lent: &Lent,
     settings: Settings,
     position: &mut [u8],
     output: &mut [u16],
     work: &mut [u16],
-    bytes: &mut [u8],
-) -> (PageAnswer, usize)
-    requires { 6 * length output.old ≤ length bytes.old }
-    ensures { Turned lent.now (settings_of settings) position.old output.old (length work.old)
-        bytes.old position.new output.new bytes.new result.0 result.1 }
+) -> PageAnswer
+    ensures { PageReplies result position.new output.new
+        (turn_reply lent.now (settings_of settings) position.old output.old (length work.old)) }
 {
-    let page = page::page(
+    page::page(
         lent.table.bytes,
         lent.degrees,
         position,
@@ -46,9 +60,7 @@ fn one_page(
         settings.kind,
         settings.factor,
         u32::MAX,
-    );
-    let end = print_entries(&output[..page.used], bytes);
-    (page, end)
+    )
 }
 
 // Lists all groups of a graph from the fresh position on, and answers the totals of the whole list. At the first write that fails it ends, and answers
@@ -70,10 +82,9 @@ pub fn list_all(
         steps: 0,
     };
     loop {
-        let (page, end) = one_page(lent, settings, position, output, work, bytes);
-        let written = write_page(rt, &bytes[..end], &output[..page.used]);
+        let page = one_page(lent, settings, position, output, work);
         totals.add(&page);
-        if written.is_err() {
+        if print_page(rt, &page, output, bytes).is_err() {
             return Err(totals);
         }
         if page.stop == u32::from(Stop::Finished) {

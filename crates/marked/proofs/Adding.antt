@@ -6,20 +6,24 @@ use mathlib.Core.Bool.{Bool, true, false, true≢false}
 use mathlib.Core.List.{List}
 use mathlib.Core.Logic.{◌⊎◌, inl, inr}
 use native.Mathlib.Omega.{arith}
-use lib.ListN.{length, get_or}
-use lib.Seq.{ext_get_or}
+use lib.ListN.{length, get_or, take}
+use lib.Seq.{ext_get_or, get_or-take, length-take-le}
+use Rattle.std.specs.Prelude.{EachIndex, slice_index}
+use Rattle.graph.proofs.Vertices.{part-vertices}
+use Rattle.theory.specs.Parts.{part}
 use Rattle.model.specs.Graph.{Graph, degree}
-use Rattle.marked.specs.Marks.{dropped, drop_out, count_in}
+use Rattle.marked.specs.Marks.{DroppedAt, dropped, drop_out, BringsBack, count_in}
 use Rattle.theory.proofs.Basics.Tests.{lt_or_ge}
 use Rattle.theory.proofs.Basics.Parts.{kept-none}
 use Rattle.marked.proofs.Parts.{kept_wider, kept_then}
+use Rattle.marked.proofs.Marking.{DroppedIn, Returned, lent_marks, with_marks, marks_returned}
 use Rattle.marked.proofs.Marks.{drop_at, dropped_most, return_undoes, count_most}
 use Rattle.marked.proofs.Steps.{marked_agree, with_here, with_hopeless, with_below}
-use Rattle.isolation.specs.declared.Settings.{Settings}
+use Rattle.isolation.specs.declared.criterion.Criterion.{Criterion}
 use Rattle.isolation.specs.declared.Tally.{Tally}
 use Rattle.isolation.specs.Numbers.{with_member, isolated_of}
 use Rattle.marked.specs.Numbers.{hopeless_of, find_of, with_of}
-use Rattle.marked.specs.Places.{candidates_in, marks_in, KeptButMarks, Dropped, Returned}
+use Rattle.marked.specs.Places.{candidates_in, marks_in, marks_of, KeptButMarks}
 use Rattle.marked.specs.Search.{Room, RoomWith, Restored, Searched, SearchedWith}
 
 -- what is left behind where the answer is yes, and where it is no and the slice is as it was
@@ -30,25 +34,37 @@ pub restored_no : {n m : ℕ} {w w₁ : List ℕ} → w₁ ≡ w → Restored n 
 restored_no {n} {m} {w} e = record { kept = subst (KeptButMarks n 0 m w) (sym e) (kept-none _ _ w); on_no = λ f. e }
 
 -- the candidate v is to be added, in a graph of few vertices, with a slice that is long enough
-pub record Asked (G : Graph) (w : List ℕ) (s : Settings) (y : Tally) (low v i m left : ℕ) : Type 0 where
+pub record Asked (G : Graph) (w : List ℕ) (q : Criterion) (y : Tally) (low v i m left : ℕ) : Type 0 where
   pub small : G.size ≤ 1024
   pub parts : 5 * G.size ≤ length w
-  pub room : RoomWith G.size w s y low v i m left
+  pub room : RoomWith G.size w q y low v i m left
 
 -- the candidate v is added
-module _ {G : Graph} {w : List ℕ} {s : Settings} {y : Tally} {low v i m left : ℕ} (asked : Asked G w s y low v i m left) where
+module _ {G : Graph} {w : List ℕ} {q : Criterion} {y : Tally} {low v i m left : ℕ} (asked : Asked G w q y low v i m left) where
   abbrev n : ℕ
   n = G.size
 
-  abbrev room : RoomWith n w s y low v i m left
+  abbrev room : RoomWith n w q y low v i m left
   room = asked.room
 
-  abbrev state : Room n w s y low i m left
+  abbrev state : Room n w q y low i m left
   state = room.state
 
   -- there are no more candidates still in than there are left
   pub left-few : left ≤ m - i
   left-few = let k = count_most (marks_in n w) i (m - i) in let e = state.still in omega arith
+
+  -- the candidates that are lent are vertices
+  pub lent-vertices : {front : List ℕ} → front ≡ take (4 * n) w → let cs = part front (3 * n + i) (3 * n + m - (3 * n + i)) in EachIndex cs (λ e. slice_index cs e < n)
+  lent-vertices {front} q =
+      let f = state.few in
+      let o = state.order in
+      let l = ap length q ∙ length-take-le (4 * n) w (let p = asked.parts in omega arith) in
+      part-vertices n front (3 * n + i) (3 * n + m - (3 * n + i)) (λ e h.
+      let same = ap (λ (u : List ℕ). get_or u (3 * n + i + e) 0) q ∙ get_or-take (4 * n) w (3 * n + i + e) 0 (omega arith) in
+      let place : 3 * n + i + e ≡ 3 * n + (i + e) = omega arith in
+      let vertex = state.candidates (i + e) (omega arith) in
+      rw (same, place) vertex)
 
   -- v has degree d, and z has the numbers with it
   module _ {d : ℕ} {z : Tally} (reads : (d ≡ degree G v) × (d ≤ G.size)) (more : z ≡ with_member y d) where
@@ -68,33 +84,33 @@ module _ {G : Graph} {w : List ℕ} {s : Settings} {y : Tally} {low v i m left :
         omega arith
 
     -- found, where the set with v is isolated
-    pub with_found : true ≡ isolated_of s z → SearchedWith G w w s y low v i m true
+    pub with_found : true ≡ isolated_of q z → SearchedWith G w w q y low v i m true
     with_found e =
         record {
-          answer = sym (with_here _ _ _ _ _ _ _ _ _ _ _ _ _ (ap (isolated_of s) (sym with_degree_lem) ∙ sym e));
+          answer = sym (with_here _ _ _ _ _ _ _ _ _ _ _ _ _ (ap (isolated_of q) (sym with_degree_lem) ∙ sym e));
           restored = restored-yes (kept-none _ _ w);
         }
 
-    module _ (apart : isolated_of s z ≡ false) where
-      not_here : isolated_of s (with_member y (degree G v)) ≡ false
-      not_here = ap (isolated_of s) (sym with_degree_lem) ∙ apart
+    module _ (apart : isolated_of q z ≡ false) where
+      not_here : isolated_of q (with_member y (degree G v)) ≡ false
+      not_here = ap (isolated_of q) (sym with_degree_lem) ∙ apart
 
-      leaves_is : hopeless_of s (with_member y (degree G v)) (count_in (marks_in n w) i (m - i)) low ≡ hopeless_of s z left low
-      leaves_is = ap (λ (x : Tally). hopeless_of s x (count_in (marks_in n w) i (m - i)) low) (sym with_degree_lem) ∙ ap (λ (l : ℕ). hopeless_of s z l low) (sym state.still)
+      leaves_is : hopeless_of q (with_member y (degree G v)) (count_in (marks_in n w) i (m - i)) low ≡ hopeless_of q z left low
+      leaves_is = ap (λ (x : Tally). hopeless_of q x (count_in (marks_in n w) i (m - i)) low) (sym with_degree_lem) ∙ ap (λ (l : ℕ). hopeless_of q z l low) (sym state.still)
 
       -- given up, where no larger set is isolated
-      pub with_given_up : hopeless_of s z left low ≡ true → SearchedWith G w w s y low v i m false
+      pub with_given_up : hopeless_of q z left low ≡ true → SearchedWith G w w q y low v i m false
       with_given_up e =
           record { answer = sym (with_hopeless _ _ _ _ _ _ _ _ _ _ _ _ _ not_here (leaves_is ∙ e)); restored = restored_no refl }
 
     -- v is added: the set with it is not isolated and a larger one may be, and those not joined to it have dropped out
     pub record Below (w₁ : List ℕ) (kept : ℕ) : Type 0 where
-      pub apart : isolated_of s z ≡ false
-      pub hope : hopeless_of s z left low ≡ false
-      pub drops : Dropped G w w₁ v z.members i m kept
+      pub apart : isolated_of q z ≡ false
+      pub hope : hopeless_of q z left low ≡ false
+      pub drops : DroppedIn G w w₁ v z.members i m kept
 
     module _ {w₁ : List ℕ} {kept : ℕ} (below : Below w₁ kept) where
-      abbrev drops : Dropped G w w₁ v z.members i m kept
+      abbrev drops : DroppedIn G w w₁ v z.members i m kept
       drops = below.drops
 
       same-candidates : (e : ℕ) → e < n → candidates_in n w₁ e ≡ candidates_in n w e
@@ -124,11 +140,10 @@ module _ {G : Graph} {w : List ℕ} {s : Settings} {y : Tally} {low v i m left :
           let f = dropped_most z.members (joins_at e) (marks_in n w e) (let g = below_depth e h in omega arith) in
           omega arith
 
-      pub room-below : Room n w₁ s z low i m kept
+      pub room-below : Room n w₁ q z low i m kept
       room-below =
           let few = state.few in
           record {
-            factor = state.factor;
             order = state.order;
             room = let p = depth_is in let f = room.more in omega arith;
             few = few;
@@ -140,17 +155,17 @@ module _ {G : Graph} {w : List ℕ} {s : Settings} {y : Tally} {low v i m left :
           }
 
       -- found below v, and what is left behind then
-      module _ {w₂ : List ℕ} {r : Bool} (deep : Searched G w₁ w₂ s z low i m r) where
-        answer-below : r ≡ with_of G s low (candidates_in n w) (marks_in n w) y v i (m - i)
+      module _ {w₂ : List ℕ} {r : Bool} (deep : Searched G w₁ w₂ q z low i m r) where
+        answer-below : r ≡ with_of G q low (candidates_in n w) (marks_in n w) y v i (m - i)
         answer-below =
             deep.answer
             ∙ marked_agree _ _ _ _ (candidates_in n w₁) (candidates_in n w) (marks_in n w₁) (drop_out G (candidates_in n w) v (y.members + 1) (marks_in n w)) _ _ _ _ i (m - i)
             (λ e h l. same-candidates e (let f = state.few in let o = state.order in omega arith))
             (λ e h l. drops.marks e h (let o = state.order in omega arith) ∙ ap (λ (k : ℕ). drop_out G (candidates_in n w) v k (marks_in n w) e) depth_is)
-            ∙ ap (λ (x : Tally). find_of G s low (candidates_in n w) (drop_out G (candidates_in n w) v (y.members + 1) (marks_in n w)) x i (m - i)) with_degree_lem
+            ∙ ap (λ (x : Tally). find_of G q low (candidates_in n w) (drop_out G (candidates_in n w) v (y.members + 1) (marks_in n w)) x i (m - i)) with_degree_lem
             ∙ sym (with_below _ _ _ _ _ _ _ _ _ _ _ _ _ (not_here below.apart) (leaves_is below.apart ∙ below.hope))
 
-        pub below-found : r ≡ true → SearchedWith G w w₂ s y low v i m true
+        pub below-found : r ≡ true → SearchedWith G w w₂ q y low v i m true
         below-found e =
             record {
               answer = sym e ∙ answer-below;
@@ -162,9 +177,24 @@ module _ {G : Graph} {w : List ℕ} {s : Settings} {y : Tally} {low v i m left :
           undone : w₂ ≡ w₁
           undone = deep.restored.on_no none
 
-          pub below_none : {w₃ : List ℕ} → Returned n w₂ w₃ z.members i m → SearchedWith G w w₃ s y low v i m false
-          below_none {w₃} back = record { answer = sym none ∙ answer-below; restored = restored_no same }
+          pub below_none : (xs : List ℕ) → length xs ≡ length (lent_marks n w₂ i m)
+              → BringsBack z.members (length (lent_marks n w₂ i m)) (marks_of (lent_marks n w₂ i m)) (marks_of xs)
+              → SearchedWith G w (with_marks n w₂ i m xs) q y low v i m false
+          below_none xs long brings_back = record { answer = sym none ∙ answer-below; restored = restored_no same }
             where
+              w₃ : List ℕ
+              w₃ = with_marks n w₂ i m xs
+
+              none-before : (e : ℕ) → e < i → DroppedAt z.members (marks_in n w₂) e → ⊥
+              none-before e l q =
+                  let o = state.order in
+                  let kept = ap (λ (u : List ℕ). marks_in n u e) undone ∙ drops.kept.below (4 * n + e) (omega arith) in
+                  let deep = below_depth e (omega arith) in
+                  omega arith
+
+              back : Returned n w₂ w₃ z.members i m
+              back = marks_returned n w₂ i m state.order state.few (let p = parts-below in let l = ap length undone in omega arith) xs long none-before brings_back
+
               length-same : length w₃ ≡ length w
               length-same = back.kept.length-kept ∙ ap length undone ∙ drops.kept.length-kept
 

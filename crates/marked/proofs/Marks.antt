@@ -108,6 +108,14 @@ count_same marks other j zero f = refl
 count_same marks other j (suc r) f =
     ap₂ (λ (x y : ℕ). bit (eqb x 0) + y) (f j (omega arith) (omega arith)) (count_same marks other (suc j) r (λ e h l. f e (omega arith) (omega arith)))
 
+-- from other places on too
+pub count_shift : (marks other : Marks) (j k r : ℕ) → ((e : ℕ) → e < r → marks (j + e) ≡ other (k + e)) → count_in marks j r ≡ count_in other k r
+unfolding count_in still_in
+count_shift marks other j k zero f = refl
+count_shift marks other j k (suc r) f =
+    ap₂ (λ (x y : ℕ). bit (eqb x 0) + y) (ap marks (omega arith) ∙ f 0 (omega arith) ∙ ap other (omega arith))
+    (count_shift marks other (suc j) (suc k) r (λ e h. ap marks (omega arith) ∙ f (suc e) (omega arith) ∙ ap other (omega arith)))
+
 -- one candidate more at the end is one more where it is still in
 pub count-last : (marks : Marks) (j r : ℕ) → count_in marks j (suc r) ≡ count_in marks j r + bit (still_in marks (j + r))
 unfolding count_in

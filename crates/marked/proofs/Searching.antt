@@ -12,7 +12,7 @@ use Rattle.marked.specs.Marks.{still_in, count_in}
 use Rattle.theory.proofs.Basics.Tests.{fails}
 use Rattle.marked.proofs.Marks.{still_in_test, count_in_lem, count-out, count_most}
 use Rattle.marked.proofs.Steps.{marked_end, marked_out, marked_hopeless, marked_found, marked_next}
-use Rattle.isolation.specs.declared.Settings.{Settings}
+use Rattle.isolation.specs.declared.criterion.Criterion.{Criterion}
 use Rattle.isolation.specs.declared.Tally.{Tally}
 use Rattle.marked.specs.Numbers.{hopeless_of, find_of}
 use Rattle.marked.specs.Places.{candidates_in, marks_in}
@@ -20,37 +20,37 @@ use Rattle.marked.specs.Search.{Room, RoomWith, Searched, SearchedWith}
 use Rattle.marked.proofs.Adding.{restored-yes, restored_no}
 
 -- before candidate j, with `still` of the candidates left still in: what the search says from i on it says from j on, and the slice is as it was
-pub record At (G : Graph) (w₀ : List ℕ) (s : Settings) (y : Tally) (low i m left : ℕ) (w : List ℕ) (still j : ℕ) : Type 0 where
+pub record At (G : Graph) (w₀ : List ℕ) (q : Criterion) (y : Tally) (low i m left : ℕ) (w : List ℕ) (still j : ℕ) : Type 0 where
   pub small : G.size ≤ 1024
   pub parts : 5 * G.size ≤ length w₀
-  pub room : Room G.size w₀ s y low i m left
+  pub room : Room G.size w₀ q y low i m left
   pub from : i ≤ j
   pub upto : j ≤ m
   pub same-slice : w ≡ w₀
   pub count : still ≡ count_in (marks_in G.size w₀) j (m - j)
-  pub same : find_of G s low (candidates_in G.size w₀) (marks_in G.size w₀) y i (m - i) ≡ find_of G s low (candidates_in G.size w₀) (marks_in G.size w₀) y j (m - j)
+  pub same : find_of G q low (candidates_in G.size w₀) (marks_in G.size w₀) y i (m - i) ≡ find_of G q low (candidates_in G.size w₀) (marks_in G.size w₀) y j (m - j)
 
-module _ {G : Graph} {w₀ : List ℕ} {s : Settings} {y : Tally} {low i m left : ℕ} {w : List ℕ} {still j : ℕ} (at : At G w₀ s y low i m left w still j) where
+module _ {G : Graph} {w₀ : List ℕ} {q : Criterion} {y : Tally} {low i m left : ℕ} {w : List ℕ} {still j : ℕ} (at : At G w₀ q y low i m left w still j) where
   abbrev n : ℕ
   n = G.size
 
-  abbrev room : Room n w₀ s y low i m left
+  abbrev room : Room n w₀ q y low i m left
   room = at.room
 
   -- what the search says from place e on
   abbrev says : ℕ → Bool
-  says e = find_of G s low (candidates_in n w₀) (marks_in n w₀) y e (m - e)
+  says e = find_of G q low (candidates_in n w₀) (marks_in n w₀) y e (m - e)
 
   -- there are no more still in than there are left
   pub still-few : still ≤ m - j
   still-few = let k = count_most (marks_in n w₀) j (m - j) in let c = at.count in omega arith
 
   -- nothing is found from j on
-  none : says j ≡ false → Searched G w₀ w s y low i m false
+  none : says j ≡ false → Searched G w₀ w q y low i m false
   none e = record { answer = sym (at.same ∙ e); restored = restored_no at.same-slice }
 
   -- with no candidate left
-  pub at_end : m ≤ j → Searched G w₀ w s y low i m false
+  pub at_end : m ≤ j → Searched G w₀ w q y low i m false
   at_end h = none (marked_end _ _ _ _ _ _ _ _ _ _ j m h)
 
   module _ (inside : j < m) where
@@ -58,7 +58,7 @@ module _ {G : Graph} {w₀ : List ℕ} {s : Settings} {y : Tally} {low i m left 
     mark_is = ap (λ (u : List ℕ). marks_in n u j) at.same-slice
 
     -- passed over, where it has dropped out
-    pub at_out : marks_in n w j ≢ 0 → At G w₀ s y low i m left w still (j + 1)
+    pub at_out : marks_in n w j ≢ 0 → At G w₀ q y low i m left w still (j + 1)
     at_out out =
         record {
           small = at.small;
@@ -85,18 +85,18 @@ module _ {G : Graph} {w₀ : List ℕ} {s : Settings} {y : Tally} {low i m left 
       pub one_in : 1 ≤ still
       one_in = let c = count-after in omega arith
 
-      leaves_is : hopeless_of s y (count_in (marks_in n w₀) j (m - j)) low ≡ hopeless_of s y still low
-      leaves_is = ap (λ (l : ℕ). hopeless_of s y l low) (sym at.count)
+      leaves_is : hopeless_of q y (count_in (marks_in n w₀) j (m - j)) low ≡ hopeless_of q y still low
+      leaves_is = ap (λ (l : ℕ). hopeless_of q y l low) (sym at.count)
 
       -- left, where nothing larger is isolated
-      pub at_hopeless : hopeless_of s y still low ≡ true → Searched G w₀ w s y low i m false
+      pub at_hopeless : hopeless_of q y still low ≡ true → Searched G w₀ w q y low i m false
       at_hopeless e = none (marked_hopeless _ _ _ _ _ _ _ _ _ _ j m inside still_in_lem (leaves_is ∙ e))
 
   -- candidate j, read as v, is to be added: it is there and still in, and a larger set may be isolated
   pub record Tries (v : ℕ) : Type 0 where
     pub inside : j < m
     pub is_in : marks_in n w j ≡ 0
-    pub hope : hopeless_of s y still low ≡ false
+    pub hope : hopeless_of q y still low ≡ false
     pub reads : v ≡ candidates_in n w j
 
   module _ {v : ℕ} (tries : Tries v) where
@@ -112,12 +112,11 @@ module _ {G : Graph} {w₀ : List ℕ} {s : Settings} {y : Tally} {low i m left 
     pub parts_with : 5 * n ≤ length w
     parts_with = rw at.same-slice at.parts
 
-    pub room_with : RoomWith n w s y low v (j + 1) m (still - 1)
+    pub room_with : RoomWith n w q y low v (j + 1) m (still - 1)
     room_with =
-        subst (λ (u : List ℕ). RoomWith n u s y low v (j + 1) m (still - 1)) (sym at.same-slice)
+        subst (λ (u : List ℕ). RoomWith n u q y low v (j + 1) m (still - 1)) (sym at.same-slice)
         record {
           state = record {
-            factor = room.factor;
             order = omega arith;
             room = let l = at.from in let f = room.room in omega arith;
             few = room.few;
@@ -131,17 +130,17 @@ module _ {G : Graph} {w₀ : List ℕ} {s : Settings} {y : Tally} {low i m left 
           vertex = let k = is_candidate in let l = room.candidates j inside in omega arith;
         }
 
-    module _ {w₁ : List ℕ} {r : Bool} (tried : SearchedWith G w w₁ s y low v (j + 1) m r) where
-      tried_here : SearchedWith G w₀ w₁ s y low (candidates_in n w₀ j) (j + 1) m r
+    module _ {w₁ : List ℕ} {r : Bool} (tried : SearchedWith G w w₁ q y low v (j + 1) m r) where
+      tried_here : SearchedWith G w₀ w₁ q y low (candidates_in n w₀ j) (j + 1) m r
       tried_here =
-          subst (λ (u : List ℕ). SearchedWith G u w₁ s y low (candidates_in n w₀ j) (j + 1) m r) at.same-slice
-          (subst (λ (u : ℕ). SearchedWith G w w₁ s y low u (j + 1) m r) is_candidate tried)
+          subst (λ (u : List ℕ). SearchedWith G u w₁ q y low (candidates_in n w₀ j) (j + 1) m r) at.same-slice
+          (subst (λ (u : ℕ). SearchedWith G w w₁ q y low u (j + 1) m r) is_candidate tried)
 
-      hopeful : hopeless_of s y (count_in (marks_in n w₀) j (m - j)) low ≡ false
+      hopeful : hopeless_of q y (count_in (marks_in n w₀) j (m - j)) low ≡ false
       hopeful = leaves_is inside tries.is_in ∙ tries.hope
 
       -- found with it
-      pub at_found : r ≡ true → Searched G w₀ w₁ s y low i m true
+      pub at_found : r ≡ true → Searched G w₀ w₁ q y low i m true
       at_found e =
           record {
             answer =
@@ -151,7 +150,7 @@ module _ {G : Graph} {w₀ : List ℕ} {s : Settings} {y : Tally} {low i m left 
           }
 
       -- passed over, where nothing is found with it
-      pub at_next : r ≡ false → At G w₀ s y low i m left w₁ (still - 1) (j + 1)
+      pub at_next : r ≡ false → At G w₀ q y low i m left w₁ (still - 1) (j + 1)
       at_next e =
           record {
             small = at.small;

@@ -14,7 +14,7 @@ use Rattle.theory.specs.Search.{joined_all}
 use Rattle.theory.proofs.Basics.Tests.{trichotomy}
 use Rattle.theory.proofs.Basics.Parts.{part_length, part_at, part_push, kept_set}
 use Rattle.marked.proofs.First.{first_end, first-hopeless, first-apart, first_here, first_down}
-use Rattle.isolation.specs.declared.Settings.{Settings}
+use Rattle.isolation.specs.declared.criterion.Criterion.{Criterion}
 use Rattle.isolation.specs.declared.Tally.{Tally}
 use Rattle.isolation.specs.Numbers.{with_member, isolated_of}
 use Rattle.marked.specs.Numbers.{hopeless_of, first_of}
@@ -22,10 +22,10 @@ use Rattle.marked.specs.Places.{KeptButMarks}
 use Rattle.marked.specs.Search.{Start, FirstFound}
 
 -- before candidate j, with those added in entries 4 × n to end - 1: what the way finds from the start it finds from there with these
-pub record Down (G : Graph) (w₀ : List ℕ) (s : Settings) (y : Tally) (m : ℕ) (w : List ℕ) (z : Tally) (end j : ℕ) : Type 0 where
+pub record Down (G : Graph) (w₀ : List ℕ) (q : Criterion) (y : Tally) (m : ℕ) (w : List ℕ) (z : Tally) (end j : ℕ) : Type 0 where
   pub small : G.size ≤ 1024
   pub parts : 5 * G.size ≤ length w₀
-  pub start : Start G.size w₀ s y m
+  pub start : Start G.size w₀ q y m
   pub from : 4 * G.size ≤ end
   pub few : end ≤ 4 * G.size + j
   pub upto : j ≤ m
@@ -33,9 +33,9 @@ pub record Down (G : Graph) (w₀ : List ℕ) (s : Settings) (y : Tally) (m : �
   pub sum : z.sum ≤ 1024 * z.members
   pub added : HoldsVertices G.size w (4 * G.size) (end - 4 * G.size)
   pub kept : KeptButMarks G.size 0 m w₀ w
-  pub same : first_of G s [] y (part w₀ (3 * G.size) m) ≡ first_of G s (part w (4 * G.size) (end - 4 * G.size)) z (drop j (part w₀ (3 * G.size) m))
+  pub same : first_of G q [] y (part w₀ (3 * G.size) m) ≡ first_of G q (part w (4 * G.size) (end - 4 * G.size)) z (drop j (part w₀ (3 * G.size) m))
 
-module _ {G : Graph} {w₀ : List ℕ} {s : Settings} {y : Tally} {m : ℕ} {w : List ℕ} {z : Tally} {end j : ℕ} (down : Down G w₀ s y m w z end j) where
+module _ {G : Graph} {w₀ : List ℕ} {q : Criterion} {y : Tally} {m : ℕ} {w : List ℕ} {z : Tally} {end j : ℕ} (down : Down G w₀ q y m w z end j) where
   abbrev n : ℕ
   n = G.size
 
@@ -49,22 +49,22 @@ module _ {G : Graph} {w₀ : List ℕ} {s : Settings} {y : Tally} {m : ℕ} {w :
   all-candidates = let l = down.parts in let f = down.start.room in part_length w₀ (3 * n) m (omega arith)
 
   -- what the way finds is known
-  found : {w₁ : List ℕ} {r : Bool} → KeptButMarks n 0 m w₀ w₁ → first_of G s added_list z (drop j candidates) ≡ r → FirstFound G w₀ w₁ s y m r
+  found : {w₁ : List ℕ} {r : Bool} → KeptButMarks n 0 m w₀ w₁ → first_of G q added_list z (drop j candidates) ≡ r → FirstFound G w₀ w₁ q y m r
   found k e = record { answer = sym (down.same ∙ e); kept = k }
 
   -- with no candidate left
-  pub down_end : m ≤ j → FirstFound G w₀ w s y m false
+  pub down_end : m ≤ j → FirstFound G w₀ w q y m false
   down_end h = found down.kept (first_end _ _ _ _ _ _ _ _ _ candidates j (let l = all-candidates in omega arith))
 
   module _ (inside : j < m) where
     in_list : j < length candidates
     in_list = let l = all-candidates in omega arith
 
-    left_is : hopeless_of s z (length candidates - j) 0 ≡ hopeless_of s z (m - j) 0
-    left_is = ap (λ (l : ℕ). hopeless_of s z (l - j) 0) all-candidates
+    left_is : hopeless_of q z (length candidates - j) 0 ≡ hopeless_of q z (m - j) 0
+    left_is = ap (λ (l : ℕ). hopeless_of q z (l - j) 0) all-candidates
 
     -- given up
-    pub down_hopeless : hopeless_of s z (m - j) 0 ≡ true → FirstFound G w₀ w s y m false
+    pub down_hopeless : hopeless_of q z (m - j) 0 ≡ true → FirstFound G w₀ w q y m false
     down_hopeless e = found down.kept (first-hopeless _ _ _ _ _ _ _ _ _ candidates j in_list (left_is ∙ e))
 
     -- candidate j is read as v
@@ -78,15 +78,15 @@ module _ {G : Graph} {w₀ : List ℕ} {s : Settings} {y : Tally} {m : ℕ} {w :
       pub down_vertex : v < n
       down_vertex = let k = entry-same in let l = down.start.candidates j inside in omega arith
 
-      module _ (hope : hopeless_of s z (m - j) 0 ≡ false) where
-        hopeful : hopeless_of s z (length candidates - j) 0 ≡ false
+      module _ (hope : hopeless_of q z (m - j) 0 ≡ false) where
+        hopeful : hopeless_of q z (length candidates - j) 0 ≡ false
         hopeful = left_is ∙ hope
 
         joined_is : {b : Bool} → b ≡ joined_all G v added_list → joined_all G (get_or candidates j 0) added_list ≡ b
         joined_is e = ap (λ (u : ℕ). joined_all G u added_list) is_candidate ∙ sym e
 
         -- passed over, where it is not joined to those added
-        pub down_apart : false ≡ joined_all G v added_list → Down G w₀ s y m w z end (j + 1)
+        pub down_apart : false ≡ joined_all G v added_list → Down G w₀ q y m w z end (j + 1)
         down_apart e =
             record {
               small = down.small;
@@ -106,7 +106,7 @@ module _ {G : Graph} {w₀ : List ℕ} {s : Settings} {y : Tally} {m : ℕ} {w :
   pub record Adds (v d : ℕ) (x : Tally) : Type 0 where
     pub inside : j < m
     pub reads : v ≡ get_or w (3 * n + j) 0
-    pub hope : hopeless_of s z (m - j) 0 ≡ false
+    pub hope : hopeless_of q z (m - j) 0 ≡ false
     pub joins : true ≡ joined_all G v added_list
     pub degree : (d ≡ degree G v) × (d ≤ n)
     pub more : x ≡ with_member z d
@@ -118,7 +118,7 @@ module _ {G : Graph} {w₀ : List ℕ} {s : Settings} {y : Tally} {m : ℕ} {w :
     is_here : get_or candidates j 0 ≡ v
     is_here = is_candidate inside adds.reads
 
-    hopeful_here : hopeless_of s z (length candidates - j) 0 ≡ false
+    hopeful_here : hopeless_of q z (length candidates - j) 0 ≡ false
     hopeful_here = hopeful inside adds.reads adds.hope
 
     joined_here : joined_all G (get_or candidates j 0) added_list ≡ true
@@ -131,14 +131,14 @@ module _ {G : Graph} {w₀ : List ℕ} {s : Settings} {y : Tally} {m : ℕ} {w :
     members-more = ap (λ (u : Tally). u.members) adds.more
 
     -- found, where the set with it is isolated
-    pub down_here : true ≡ isolated_of s x → FirstFound G w₀ w s y m true
-    down_here e = found down.kept (first_here _ _ _ _ _ _ _ _ _ candidates j (in_list inside) hopeful_here joined_here (ap (isolated_of s) (sym with_degree_lem) ∙ sym e))
+    pub down_here : true ≡ isolated_of q x → FirstFound G w₀ w q y m true
+    down_here e = found down.kept (first_here _ _ _ _ _ _ _ _ _ candidates j (in_list inside) hopeful_here joined_here (ap (isolated_of q) (sym with_degree_lem) ∙ sym e))
 
     -- else the entry that was read is written after those added
     abbrev entry : ℕ
     entry = get_or w (3 * n + j) 0
 
-    pub down_more : isolated_of s x ≡ false → Down G w₀ s y m (set w end entry) x (end + 1) (j + 1)
+    pub down_more : isolated_of q x ≡ false → Down G w₀ q y m (set w end entry) x (end + 1) (j + 1)
     down_more apart =
         let f = down.from in
         let g = down.few in
@@ -162,7 +162,7 @@ module _ {G : Graph} {w₀ : List ℕ} {s : Settings} {y : Tally} {m : ℕ} {w :
               omega arith;
           added = added_more;
           kept = kept_set _ _ w₀ w down.kept end entry (omega arith) (omega arith);
-          same = down.same ∙ first_down _ _ _ _ _ _ _ _ _ candidates j (in_list inside) hopeful_here joined_here (ap (isolated_of s) (sym with_degree_lem) ∙ apart) ∙ pushed_same;
+          same = down.same ∙ first_down _ _ _ _ _ _ _ _ _ candidates j (in_list inside) hopeful_here joined_here (ap (isolated_of q) (sym with_degree_lem) ∙ apart) ∙ pushed_same;
         }
       where
         fits : end < length w
@@ -201,8 +201,8 @@ module _ {G : Graph} {w₀ : List ℕ} {s : Settings} {y : Tally} {m : ℕ} {w :
             place : 4 * n + (end - 4 * n) ≡ end
             place = let f = down.from in omega arith
 
-        pushed_same : first_of G s (added_list ++ (get_or candidates j 0 ∷ [])) (with_member z (degree G (get_or candidates j 0))) (drop (j + 1) candidates)
-            ≡ first_of G s (part (set w end entry) (4 * n) (end + 1 - 4 * n)) x (drop (j + 1) candidates)
+        pushed_same : first_of G q (added_list ++ (get_or candidates j 0 ∷ [])) (with_member z (degree G (get_or candidates j 0))) (drop (j + 1) candidates)
+            ≡ first_of G q (part (set w end entry) (4 * n) (end + 1 - 4 * n)) x (drop (j + 1) candidates)
         pushed_same =
-            ap (λ (u : Tally). first_of G s (added_list ++ (get_or candidates j 0 ∷ [])) u (drop (j + 1) candidates)) (sym with_degree_lem)
-            ∙ ap (λ (us : List ℕ). first_of G s us x (drop (j + 1) candidates)) (sym pushed)
+            ap (λ (u : Tally). first_of G q (added_list ++ (get_or candidates j 0 ∷ [])) u (drop (j + 1) candidates)) (sym with_degree_lem)
+            ∙ ap (λ (us : List ℕ). first_of G q us x (drop (j + 1) candidates)) (sym pushed)

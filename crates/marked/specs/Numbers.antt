@@ -1,10 +1,10 @@
--- The bound and the searches of this crate over the settings and a set's numbers as code hands them on.
+-- The bound and the searches of this crate over the criterion and a set's numbers as code hands them on.
 -- Assumes nothing.
 use Rattle.std.specs.Prelude.{ℕ, ◌+◌, ◌*◌, max, Bool, List}
 use Rattle.model.specs.Graph.{Graph}
-use Rattle.isolation.specs.declared.Settings.{Settings}
+use Rattle.isolation.specs.declared.criterion.Criterion.{Criterion}
 use Rattle.isolation.specs.declared.Tally.{Tally}
-use Rattle.isolation.specs.Numbers.{settings_of}
+use Rattle.isolation.specs.Numbers.{settings_in}
 use Rattle.marked.specs.Bound.{further_degree, hopeless, find_first}
 use Rattle.marked.specs.Marks.{Marks, find_marked, find_with}
 
@@ -19,19 +19,19 @@ grown_of t x low =
     }
 
 -- no clique with 1 to r further members, each of degree low or more, is isolated
-abbrev pub hopeless_of : Settings → Tally → ℕ → ℕ → Bool
-hopeless_of s t r low = hopeless s.notion (settings_of s).factor low r t.members t.sum t.least t.largest
+abbrev pub hopeless_of : Criterion → Tally → ℕ → ℕ → Bool
+hopeless_of q t r low = hopeless (settings_in q).notion (settings_in q).factor low r t.members t.sum t.least t.largest
 
 -- the search over marks, of the r candidates from place j on, none of a degree below low
-abbrev pub find_of : Graph → Settings → ℕ → (ℕ → ℕ) → Marks → Tally → ℕ → ℕ → Bool
-find_of G s low candidate marks t j r =
-    find_marked G s.notion (settings_of s).factor low candidate marks t.members t.sum t.least t.largest j r
+abbrev pub find_of : Graph → Criterion → ℕ → (ℕ → ℕ) → Marks → Tally → ℕ → ℕ → Bool
+find_of G q low candidate marks t j r =
+    find_marked G (settings_in q).notion (settings_in q).factor low candidate marks t.members t.sum t.least t.largest j r
 
 -- the same with v added
-abbrev pub with_of : Graph → Settings → ℕ → (ℕ → ℕ) → Marks → Tally → ℕ → ℕ → ℕ → Bool
-with_of G s low candidate marks t v j r =
-    find_with G s.notion (settings_of s).factor low candidate marks t.members t.sum t.least t.largest v j r
+abbrev pub with_of : Graph → Criterion → ℕ → (ℕ → ℕ) → Marks → Tally → ℕ → ℕ → ℕ → Bool
+with_of G q low candidate marks t v j r =
+    find_with G (settings_in q).notion (settings_in q).factor low candidate marks t.members t.sum t.least t.largest v j r
 
 -- the first way down, by the least that degrees can be
-abbrev pub first_of : Graph → Settings → List ℕ → Tally → List ℕ → Bool
-first_of G s added t vs = find_first G s.notion (settings_of s).factor 0 added t.members t.sum t.least t.largest vs
+abbrev pub first_of : Graph → Criterion → List ℕ → Tally → List ℕ → Bool
+first_of G q added t vs = find_first G (settings_in q).notion (settings_in q).factor 0 added t.members t.sum t.least t.largest vs

@@ -5,15 +5,14 @@
 
 ghost use Rattle.std.specs.Prelude.{◌≡◌, ◌+◌, ◌*◌, ◌<◌, ◌≤◌, length, slice_index, EachIndex};
 ghost use Rattle.graph.specs.Held.{graph_in};
-ghost use Rattle.isolation.specs.Numbers.{Small};
 ghost use Rattle.larger.specs.Search.{Posed};
-ghost use Rattle.marked.specs.Marks.{dropped, returned};
+ghost use Rattle.marked.specs.Marks.{dropped, returned, BringsBack};
 ghost use Rattle.marked.specs.Numbers.{grown_of, hopeless_of};
-ghost use Rattle.marked.specs.Places.{MarksFit, AllIn, DropFits, Dropped, ReturnFits, Returned};
+ghost use Rattle.marked.specs.Places.{marks_of, Dropped};
 ghost use Rattle.marked.specs.Search.{Lowest, Start, FirstFound, Room, Searched, RoomWith, SearchedWith, Tested};
 
 use graph::{Lent, Table};
-use isolation::{Kind, Notion, Settings, Tally};
+use isolation::{Criterion, Kind, Notion, Tally};
 use larger::joined_to_all;
 
 // The numbers t with x further members, of the degree that none of them is below: low, or how many others the clique then has. The least degree is left as it
@@ -34,36 +33,36 @@ fn grown(t: Tally, x: usize, low: usize) -> Tally
 
 // Whether no clique of the members with the numbers t and 1 to r further ones, each of degree low or more, is isolated: neither with r nor with 1 of degree
 // low. Under min it says no.
-pub fn hopeless(s: Settings, t: Tally, r: usize, low: usize) -> bool
-    requires { Small s (t.members + r) × (t.sum ≤ 67107840) × (low ≤ 65535) }
-    ensures { result ≡ hopeless_of s t r low }
+pub fn hopeless(q: Criterion, t: Tally, r: usize, low: usize) -> bool
+    requires { (t.members + r ≤ 1024) × (t.sum ≤ 67107840) × (low ≤ 65535) }
+    ensures { result ≡ hopeless_of q t r low }
 {
-    if s.notion() == Notion::Min {
+    if q.notion == Notion::Min {
         return false;
     }
     if r == 0 {
         return true;
     }
-    if s.isolates(grown(t, r, low)) {
+    if q.isolates(grown(t, r, low)) {
         return false;
     }
-    !s.isolates(grown(t, 1, low))
+    !q.isolates(grown(t, 1, low))
 }
 
 // The first way down: goes through the m candidates of part 3 of work once and adds each that is joined to those added so far to the members, which have the
 // numbers y. Whether a set on this way is isolated, which is often so and found at little cost; a no says nothing. Given up where no larger set can be
 // isolated. Reads the table and the degrees; writes those added where the candidates' marks will stand, the first m entries of part 4.
-fn first_way(lent: &Lent<'_>, work: &mut [u16], s: Settings, y: Tally, m: usize) -> bool
+fn first_way(lent: &Lent<'_>, work: &mut [u16], q: Criterion, y: Tally, m: usize) -> bool
     requires parts { 5 * lent.now.table.n ≤ length work.old }
-    requires start { Start lent.now.table.n work.old s y m }
-    ensures { FirstFound (graph_in lent.now.table) work.old work.new s y m result }
+    requires start { Start lent.now.table.n work.old q y m }
+    ensures { FirstFound (graph_in lent.now.table) work.old work.new q y m result }
 {
     let n = lent.table.n;
     let first = 4 * n;
     let mut end = first;
     let mut z = y;
     for j in 0..m {
-        if hopeless(s, z, m - j, 0) {
+        if hopeless(q, z, m - j, 0) {
             return false;
         }
         let candidate = work[3 * n + j];
@@ -71,7 +70,7 @@ fn first_way(lent: &Lent<'_>, work: &mut [u16], s: Settings, y: Tally, m: usize)
         if joined_to_all(&lent.table, v, &work[first..end]) {
             let d = lent.degree(v);
             z = z.with_member(d);
-            if s.isolates(z) {
+            if q.isolates(z) {
                 return true;
             }
             work[end] = candidate;
@@ -95,14 +94,6 @@ fn returned(depth: u16, mark: u16) -> u16
     if mark == depth { 0 } else { mark }
 }
 
-// Sets the marks of the m candidates to 0: all are in. Writes the first m entries of part 4 of work.
-fn clear_marks(work: &mut [u16], n: usize, m: usize)
-    requires { MarksFit n work.old 0 0 m }
-    ensures { AllIn n work.old work.new m }
-{
-    work[4 * n..4 * n + m].fill(0);
-}
-
 // A number that no degree of the candidates is below, here the least of them. Reads the candidates and their degrees.
 fn least_degree(lent: &Lent<'_>, candidates: &[u16]) -> usize
     requires { EachIndex candidates.now (λ i. slice_index candidates.now i < lent.now.table.n) }
@@ -116,42 +107,39 @@ fn least_degree(lent: &Lent<'_>, candidates: &[u16]) -> usize
     low
 }
 
-// Adds the member v at the depth: marks with it each of the candidates i to m - 1 that is still in and not joined to v, and says how many of them are still
-// in. Reads v's row of the table at these candidates; writes their marks, which are entries of part 4 of work.
+// Adds the member v at the depth: marks with it each of the candidates that is still in and not joined to v, and says how many of them are still in. Reads v's
+// row of the table at these candidates; writes their marks, which stand in `marks` in the same order.
 fn drop_out(
     table: &Table<'_>,
-    work: &mut [u16],
+    candidates: &[u16],
+    marks: &mut [u16],
     v: usize,
     depth: usize,
-    i: usize,
-    m: usize,
 ) -> usize
-    requires { DropFits table.now.n work.old v depth i m }
-    ensures { Dropped (graph_in table.now) work.old work.new v depth i m result }
+    requires member { (v < table.now.n) × (depth ≤ 1024) }
+    requires vertices { EachIndex candidates.now (λ i. slice_index candidates.now i < table.now.n) }
+    requires beside { length candidates.now ≡ length marks.old }
+    ensures { Dropped (graph_in table.now) candidates.now marks.old marks.new v depth result }
 {
-    let n = table.n;
-    let mark = depth as u16;
+    let depth = depth as u16;
     let mut left = 0;
-    for j in i..m {
-        let u = usize::from(work[3 * n + j]);
-        let joined = table.joined(v, u);
-        let after = dropped(mark, joined, work[4 * n + j]);
-        work[4 * n + j] = after;
-        left += usize::from(after == 0);
+    for (e, mark) in marks.iter_mut().enumerate() {
+        let joined = table.joined(v, usize::from(candidates[e]));
+        *mark = dropped(depth, joined, *mark);
+        left += usize::from(*mark == 0);
     }
     left
 }
 
-// Returns from the depth: brings back exactly those of the m candidates that dropped out there, none of which stands before place i, and keeps every other
-// mark (`BringsBack`, with the law `brings_back_exactly`). Nothing is copied. Writes the marks of candidates i to m - 1, which are entries of part 4 of work.
-fn bring_back(work: &mut [u16], n: usize, depth: usize, i: usize, m: usize)
-    requires { ReturnFits n work.old depth i m }
-    ensures { Returned n work.old work.new depth i m }
+// Returns from the depth: brings back exactly those of the candidates with these marks that dropped out there, and keeps every other mark (`BringsBack`, with
+// the law `brings_back_exactly`; `marks_returned` says it of all candidates). Nothing is copied. Writes the marks.
+fn bring_back(marks: &mut [u16], depth: usize)
+    requires { depth ≤ 1024 }
+    ensures { BringsBack depth (length marks.old) (marks_of marks.old) (marks_of marks.new) }
 {
-    let mark = depth as u16;
-    for j in i..m {
-        let after = returned(mark, work[4 * n + j]);
-        work[4 * n + j] = after;
+    let depth = depth as u16;
+    for mark in marks.iter_mut() {
+        *mark = returned(depth, *mark);
     }
 }
 
@@ -162,7 +150,7 @@ fn bring_back(work: &mut [u16], n: usize, depth: usize, i: usize, m: usize)
 fn search(
     lent: &Lent<'_>,
     work: &mut [u16],
-    s: Settings,
+    q: Criterion,
     y: Tally,
     low: usize,
     i: usize,
@@ -170,19 +158,19 @@ fn search(
     left: usize,
 ) -> bool
     requires parts { 5 * lent.now.table.n ≤ length work.old }
-    requires state { Room lent.now.table.n work.old s y low i m left }
-    ensures { Searched (graph_in lent.now.table) work.old work.new s y low i m result }
+    requires state { Room lent.now.table.n work.old q y low i m left }
+    ensures { Searched (graph_in lent.now.table) work.old work.new q y low i m result }
 {
     let n = lent.table.n;
     let mut still = left;
     for j in i..m {
         if work[4 * n + j] == 0 {
-            if hopeless(s, y, still, low) {
+            if hopeless(q, y, still, low) {
                 return false;
             }
             let v = usize::from(work[3 * n + j]);
             still -= 1;
-            if search_with(lent, work, s, y, low, v, j + 1, m, still) {
+            if search_with(lent, work, q, y, low, v, j + 1, m, still) {
                 return true;
             }
         }
@@ -198,7 +186,7 @@ fn search(
 fn search_with(
     lent: &Lent<'_>,
     work: &mut [u16],
-    s: Settings,
+    q: Criterion,
     y: Tally,
     low: usize,
     v: usize,
@@ -207,23 +195,26 @@ fn search_with(
     left: usize,
 ) -> bool
     requires parts { 5 * lent.now.table.n ≤ length work.old }
-    requires state { RoomWith lent.now.table.n work.old s y low v i m left }
-    ensures { SearchedWith (graph_in lent.now.table) work.old work.new s y low v i m result }
+    requires state { RoomWith lent.now.table.n work.old q y low v i m left }
+    ensures { SearchedWith (graph_in lent.now.table) work.old work.new q y low v i m result }
 {
     let d = lent.degree(v);
     let z = y.with_member(d);
-    if s.isolates(z) {
+    if q.isolates(z) {
         return true;
     }
-    if hopeless(s, z, left, low) {
+    if hopeless(q, z, left, low) {
         return false;
     }
+    let n = lent.table.n;
     let depth = z.members;
-    let kept = drop_out(&lent.table, work, v, depth, i, m);
-    if search(lent, work, s, z, low, i, m, kept) {
+    let (front, marks) = work.split_at_mut(4 * n);
+    let candidates = &front[3 * n + i..3 * n + m];
+    let kept = drop_out(&lent.table, candidates, &mut marks[i..m], v, depth);
+    if search(lent, work, q, z, low, i, m, kept) {
         return true;
     }
-    bring_back(work, lent.table.n, depth, i, m);
+    bring_back(&mut work[4 * n + i..4 * n + m], depth);
     false
 }
 
@@ -231,19 +222,20 @@ fn search_with(
 // definition 2 (kind 0, maximal isolated): a larger isolated clique is searched for under avg and max; definition 1 (kind 1, isolated maximal): a larger
 // clique, so a common neighbour decides, and under min it decides for both kinds (section 2.1). Reads the table and the degrees; writes the first m entries
 // of part 4 of work, the candidates' marks, alone.
-pub fn beaten(lent: &Lent<'_>, work: &mut [u16], s: Settings, y: Tally, m: usize) -> bool
+pub fn beaten(lent: &Lent<'_>, work: &mut [u16], q: Criterion, y: Tally, m: usize) -> bool
     requires parts { 5 * lent.now.table.n ≤ length work.old }
-    requires posed { Posed (graph_in lent.now.table) work.old s y m }
-    ensures { Tested (graph_in lent.now.table) work.old work.new s y m result }
+    requires posed { Posed (graph_in lent.now.table) work.old q y m }
+    ensures { Tested (graph_in lent.now.table) work.old work.new q y m result }
 {
-    if s.kind() == Kind::IsolatedMaximal || s.notion() == Notion::Min {
+    if q.kind == Kind::IsolatedMaximal || q.notion == Notion::Min {
         return 0 < m;
     }
-    if first_way(lent, work, s, y, m) {
+    if first_way(lent, work, q, y, m) {
         return true;
     }
     let n = lent.table.n;
     let low = least_degree(lent, &work[3 * n..3 * n + m]);
-    clear_marks(work, n, m);
-    search(lent, work, s, y, low, 0, m, m)
+    // all candidates are in
+    work[4 * n..4 * n + m].fill(0);
+    search(lent, work, q, y, low, 0, m, m)
 }

@@ -1,11 +1,12 @@
 // The members of a set that is lent as bytes: listed in the work slice, whether they are pairwise joined, their numbers and their common neighbours.
 #![tactic(auto)]
 
-ghost use Rattle.std.specs.Prelude.{◌≡◌, ◌<◌, ◌≤◌, length, slice_index, EachIndex};
+ghost use Rattle.std.specs.Prelude.{◌≡◌, ◌≤◌, length};
 ghost use Rattle.model.specs.Below.{passing};
 ghost use Rattle.model.specs.Listing.{is};
 ghost use Rattle.theory.specs.Search.{joined_all};
 ghost use Rattle.graph.specs.Held.{graph_in};
+ghost use Rattle.graph.specs.Vertices.{VerticesOf};
 ghost use Rattle.theory.specs.Parts.{part, members_at, CandidatesIn};
 ghost use Rattle.members.specs.Members.{MembersFit, HoldsMembers, MembersIn, pairwise, Tallies};
 
@@ -31,7 +32,7 @@ pub fn members_of(set: &[u8], work: &mut [u16]) -> usize
 
 // Whether the members are pairwise joined: each is joined to all before it. Reads the table and the members.
 pub fn pairwise_joined(table: &Table<'_>, members: &[u16]) -> bool
-    requires { EachIndex members.now (λ i. slice_index members.now i < table.now.n) }
+    requires { VerticesOf table.now.n members.now }
     ensures { result ≡ pairwise (graph_in table.now) members.now }
 {
     for (i, v) in members.iter().enumerate() {
@@ -44,9 +45,9 @@ pub fn pairwise_joined(table: &Table<'_>, members: &[u16]) -> bool
 
 // The numbers of the set with these members, by a list of the degrees of all vertices. Reads both.
 pub fn tally_of(degrees: &[u16], members: &[u16]) -> Tally
-    requires small { length degrees.now ≤ 1024 }
-    requires few { length members.now ≤ length degrees.now }
-    requires vertices { EachIndex members.now (λ i. slice_index members.now i < length degrees.now) }
+    requires degrees_fit { length degrees.now ≤ 1024 }
+    requires members_fit { length members.now ≤ length degrees.now }
+    requires vertices { VerticesOf (length degrees.now) members.now }
     ensures { Tallies (length degrees.now) degrees.now members.now result }
 {
     let mut y = Tally {

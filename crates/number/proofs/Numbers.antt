@@ -4,7 +4,7 @@ use mathlib.Core.Path.{◌≡◌, sym, ap, ◌∙◌}
 use mathlib.Core.Bool.{true, false, ◌&&◌, and-false, or-true}
 use mathlib.Core.List.{List, [], ◌∷◌, ◌++◌}
 use mathlib.Core.Option.{Option, none, some}
-use native.Mathlib.Nat.{zero-add, pow-suc, pow-le-pow_right, le_trans}
+use native.Mathlib.Nat.{pow-suc, pow-le-pow_right, le_trans}
 use native.Mathlib.Numerals.{add-one}
 use native.Mathlib.Omega.{arith}
 use lib.ListN.{length, get_or, take, drop}
@@ -13,7 +13,6 @@ use lib.Dec.{leb, eqb}
 use borrow.Author.Tests.{le-leb, lt-leb, ne_eqb}
 use Rattle.model.specs.Text.{digits, decimal, number_of}
 use Rattle.theory.proofs.Program.Numeral.{decimal-last, digits_last}
-use Rattle.number.specs.Field.{FirstDigit}
 
 -- ---- a digit at a place
 
@@ -38,16 +37,6 @@ spoilt_from [] (suc i) e = e
 spoilt_from (x ∷ f) (suc i) e = rw (spoilt_from f i e, and-false (leb 48 x && leb x 57))
 
 -- ---- the digits before a place
-
-module _ (f : List ℕ) (h : FirstDigit f) where
-  -- the first
-  pub first-digit : digits (take 1 f) ≡ true
-  unfolding digits
-  first-digit = ap digits (take-suc f 0 0 h.some) ∙ rw (le-leb 48 _ h.from, le-leb _ 57 h.to)
-
-  pub first-value : decimal 0 (take 1 f) ≡ get_or f 0 0 - 48
-  unfolding decimal
-  first-value = ap (decimal 0) (take-suc f 0 0 h.some) ∙ zero-add (get_or f 0 0 - 48)
 
 -- one more keeps them digits, and adds to ten times their value
 module _ (f : List ℕ) (i : ℕ) (lt : i < length f) where

@@ -20,10 +20,10 @@ fn digits(bytes: &[u8]) -> Lead
     ensures { DigitsLead bytes.now result }
 {
     let most = bytes.len().min(6);
-    let mut value = usize::from(bytes[0] - b'0');
-    for i in 1..most {
-        match bytes[i] {
-            b @ b'0'..=b'9' => value = value * 10 + usize::from(b - b'0'),
+    let mut value = 0;
+    for (i, &byte) in bytes[..most].iter().enumerate() {
+        match byte {
+            b'0'..=b'9' => value = value * 10 + usize::from(byte - b'0'),
             _ => return Lead { value, count: i },
         }
     }
@@ -62,10 +62,7 @@ pub fn number(field: &[u8]) -> Option<usize>
 pub fn two_numbers(part: &[u8]) -> Option<(usize, usize)>
     ensures { PairRead part.now result }
 {
-    let end = crate::scan::find(part, b' ');
-    if end == part.len() {
-        return None;
-    }
+    let end = part.iter().position(|x| *x == b' ')?;
     let a = number(&part[..end])?;
     let b = number(&part[end + 1..])?;
     Some((a, b))

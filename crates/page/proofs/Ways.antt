@@ -9,12 +9,23 @@ use Rattle.model.specs.Graph.{LentGraph}
 use Rattle.model.specs.Groups.{Settings}
 use Rattle.model.specs.Walk.{Position, page}
 use Rattle.model.specs.Listing.{rules}
-use Rattle.model.specs.Calls.{refuse_page, reply_of, reply_to}
+use Rattle.model.specs.Calls.{refuse_input, refuse_position, refuse_page, reply_of, reply_to}
+use Rattle.theory.proofs.Basics.Refusals.{else_none, else_found}
 use Rattle.rounds.specs.declared.PageAnswer.{PageAnswer}
 use Rattle.rounds.specs.Answer.{PageReplies, refused}
 use Rattle.page.specs.Call.{PageCalled}
 
 module _ (L : LentGraph) (s : Settings) (budget : ℕ) (p : Position) (out w : List ℕ) where
+  -- the refusal of a call is that of its input
+  pub page-by_input : refuse_input L s (length p) (length w) ≢ 0 → refuse_page L s p (length w) ≡ refuse_input L s (length p) (length w)
+  unfolding refuse_page
+  page-by_input d = else_found d _
+
+  -- and where that has none, that of its position
+  pub page-by_position : refuse_input L s (length p) (length w) ≡ 0 → refuse_page L s p (length w) ≡ refuse_position (rules L.graph s) p
+  unfolding refuse_page
+  page-by_position e = else_none e _
+
   -- refused: the number is the call's, and all is left as it was
   pub called_refused : {r : ℕ} → r ≡ refuse_page L s p (length w) → r ≢ 0 → {a : PageAnswer} → a ≡ refused r → PageCalled L s budget p out w a p out w
   unfolding reply_to reply_of

@@ -6,16 +6,15 @@ use Rattle.model.specs.Meaning.{Simple}
 use Rattle.model.specs.Walk.{Position}
 use Rattle.model.specs.Listing.{rules}
 use Rattle.model.specs.Calls.{reopened, refuse_position}
-use Rattle.isolation.specs.declared.Settings.{Settings}
-use Rattle.isolation.specs.Numbers.{settings_of, FactorFits}
+use Rattle.isolation.specs.declared.criterion.Criterion.{Criterion}
+use Rattle.isolation.specs.Numbers.{settings_in}
 use Rattle.state.specs.declared.State.{State}
 use Rattle.state.specs.State.{Stands}
 
 -- A call on a graph of document 01 with the settings q, the position p and a work slice of so many entries passes all refusals, and the state and the memory stand
 -- for the position with its last decided rank opened.
-pub record Accepted (G : Graph) (q : Settings) (p : Position) (work : ℕ) (memory : List ℕ) (s : State) : Type 0 where
+pub record Accepted (G : Graph) (q : Criterion) (p : Position) (work : ℕ) (memory : List ℕ) (s : State) : Type 0 where
   pub simple : Simple G
-  pub factor : FactorFits q
   pub enough : 8 * G.size ≤ work
-  pub passes : refuse_position (rules G (settings_of q)) p ≡ 0
+  pub passes : refuse_position (rules G (settings_in q)) p ≡ 0
   pub stands : Stands G (reopened p) memory s

@@ -8,34 +8,34 @@ ghost use Rattle.model.specs.Listing.{rules};
 ghost use Rattle.model.specs.Calls.{reply_of};
 ghost use Rattle.graph.specs.Table.{lent};
 ghost use Rattle.ranks.specs.Held.{ranked_graph};
-ghost use Rattle.isolation.specs.Numbers.{settings_of};
-ghost use Rattle.rounds.specs.Answer.{PageReplies};
-ghost use Rattle.page.specs.Call.{PageCalled, answer_of};
+ghost use Rattle.isolation.specs.Numbers.{settings_of, settings_in};
+ghost use Rattle.rounds.specs.Answer.{accepted, answer_of, PageReplies};
+ghost use Rattle.page.specs.Call.{PageCalled};
 ghost use Rattle.page.specs.Accepted.{Accepted};
 
 use input::lent_input;
-use isolation::Settings;
+use isolation::{Criterion, Settings};
 use position::open;
-use ranks::{Ordered, Ranked, fill_order};
+use ranks::Ranked;
 use refusal::Refusal;
-use rounds::{PageAnswer, run};
+use rounds::{Page, PageAnswer, run};
 use state::State;
 
 // The walk of an accepted call: the state goes on from `memory` in the work slice, and then the rounds are made. Reads the ranked table and the memory;
 // writes the position, the output and the work slice.
 pub fn walk_on(
     g: &Ranked,
-    q: Settings,
+    q: Criterion,
     opened: State,
     budget: u32,
     memory: &[u16],
     position: &mut [u8],
     output: &mut [u16],
     work: &mut [u16],
-) -> PageAnswer
+) -> Page
     requires { Accepted (ranked_graph g.now) q position.old (length work.old) memory.now opened }
-    ensures { PageReplies result position.new output.new
-        (reply_of 0 (page (rules (ranked_graph g.now) (settings_of q)) budget (length output.old) position.old)
+    ensures { PageReplies (accepted result) position.new output.new
+        (reply_of 0 (page (rules (ranked_graph g.now) (settings_in q)) budget (length output.old) position.old)
         position.old output.old) }
 {
     let first = opened.go_on(g, position, memory, work);
@@ -52,22 +52,15 @@ fn page_or_refusal(
     output: &mut [u16],
     work: &mut [u16],
     n: usize,
-    q: Settings,
+    s: Settings,
     budget: u32,
-) -> Result<PageAnswer, Refusal>
-    ensures { PageCalled (lent n table.now degrees.now) (settings_of q) budget position.old output.old work.old
+) -> Result<Page, Refusal>
+    ensures { PageCalled (lent n table.now degrees.now) (settings_of s) budget position.old output.old work.old
         (answer_of result) position.new output.new work.new }
 {
-    let lent = lent_input(table, degrees, n, q, position.len(), work.len())?;
+    let (lent, q) = lent_input(table, degrees, n, s, position.len(), work.len())?;
     let mut order = [0u16; 1024];
-    fill_order(lent.degrees, &mut order);
-    let ranked = Ranked {
-        ordered: Ordered {
-            table: lent.table,
-            order: &order,
-        },
-        degrees: lent.degrees,
-    };
+    let ranked = Ranked::new(lent, &mut order);
     let mut memory = [0u16; 8192];
     let opened = open(&ranked, q, position, &mut memory)?;
     Ok(walk_on(&ranked, q, opened, budget, &memory, position, output, work))
@@ -91,13 +84,11 @@ pub fn page(
     ensures { PageCalled (lent n table.now degrees.now) (settings notion kind c) budget position.old output.old work.old
         result position.new output.new work.new }
 {
-    let q = Settings {
+    let s = Settings {
         notion,
         kind,
         factor: c,
     };
-    match page_or_refusal(table, degrees, position, output, work, n, q, budget) {
-        Ok(answer) => answer,
-        Err(refusal) => PageAnswer::from(refusal),
-    }
+    let made = page_or_refusal(table, degrees, position, output, work, n, s, budget);
+    PageAnswer::from(made)
 }

@@ -7,14 +7,14 @@ ghost use Rattle.model.specs.Below.{least};
 ghost use Rattle.model.specs.Listing.{is};
 ghost use Rattle.model.specs.Calls.{gap};
 ghost use Rattle.ranks.specs.Held.{ranked_graph};
-ghost use Rattle.isolation.specs.Numbers.{FactorFits};
 ghost use Rattle.position.specs.Position.{PositionJudged};
 
 use graph::any_over;
-use isolation::Settings;
+use isolation::Criterion;
 use ranks::Ranked;
 use refusal::Refusal;
 use state::State;
+use state::marks::{LEFT, OPEN};
 
 // The lowest open rank, and the position's length where all are decided. Reads the position up to it.
 fn decided_count(position: &[u8]) -> usize
@@ -22,7 +22,7 @@ fn decided_count(position: &[u8]) -> usize
 {
     position
         .iter()
-        .position(|mark| *mark == 0)
+        .position(|mark| *mark == OPEN)
         .unwrap_or(position.len())
 }
 
@@ -31,17 +31,17 @@ fn has_gap(position: &[u8]) -> bool
     ensures { result ≡ gap position.now }
 {
     let start = decided_count(position);
-    position[start..].iter().any(|mark| *mark != 0)
+    position[start..].iter().any(|mark| *mark != OPEN)
 }
 
 // The state of a position of n ranks, whatever its bytes, with its last decided rank opened, or the refusal of the position. Document 01, "Turned back
 // by the state": 21 a byte over 2; 22 a decided rank after an open one; 23 the position with its last decided rank opened is dead, and fresh passes. For
 // 23 the state is built in `memory`. Reads the position.
-pub fn open(g: &Ranked, q: Settings, position: &[u8], memory: &mut [u16]) -> Result<State, Refusal>
-    requires { FactorFits q × (length position.now ≡ g.now.ordered.table.n) × (8 * g.now.ordered.table.n ≤ length memory.old) }
+pub fn open(g: &Ranked, q: Criterion, position: &[u8], memory: &mut [u16]) -> Result<State, Refusal>
+    requires { (length position.now ≡ g.now.lent.table.n) × (8 * g.now.lent.table.n ≤ length memory.old) }
     ensures { PositionJudged (ranked_graph g.now) q position.now memory.new result }
 {
-    if any_over(2, position) {
+    if any_over(LEFT, position) {
         return Err(Refusal::PositionByte);
     }
     if has_gap(position) {

@@ -8,11 +8,13 @@ use native.Mathlib.Numerals.{add-one}
 use native.Mathlib.Omega.{arith}
 use lib.ListN.{length, get_or, drop, length-append}
 use lib.Dec.{eqb}
-use lib.Seq.{drop-cons, drop-length}
+use lib.Seq.{drop-length}
 use borrow.Author.Tests.{ne_eqb}
+use Rattle.std.proofs.lemmas.List.{at_drop_more}
 use Rattle.model.specs.Program.{numeral}
 use Rattle.theory.specs.Printed.{printed_from, printed}
-use Rattle.print.specs.Put.{Puts, EntryPut}
+use Rattle.print.specs.declared.Printer.{Printer}
+use Rattle.print.specs.Put.{Room, Puts, EntryPut}
 use Rattle.print.proofs.Puts.{puts_as, puts_none, puts-length, puts_then}
 use Rattle.print.proofs.Numeral.{five_digits}
 
@@ -22,8 +24,8 @@ use Rattle.print.proofs.Numeral.{five_digits}
 pub number_fits : (start k room : ℕ) → k ≤ 65536 → start + 6 ≤ room → start + length (numeral k) ≤ room
 number_fits start k room h w = omega (arith, five_digits k h)
 
-pub byte_fits : {b : List ℕ} {start : ℕ} {m : List ℕ} {f : ℕ} (k : ℕ) → k ≤ 65536 → start + 6 ≤ length b → Puts b start (numeral k) m f → f + 1 ≤ length m
-byte_fits k h w p = let e = p.place in omega (arith, puts-length p, five_digits k h)
+pub byte_fits : {p q : Printer} (k : ℕ) → k ≤ 65536 → Room p 6 → Puts p (numeral k) q → Room q 1
+byte_fits k h w puts = let e = puts.place in omega (arith, puts-length puts, five_digits k h)
 
 -- the size of an empty group
 empty_goes : (es : List ℕ) → printed_from 0 (0 ∷ es) ≡ (10 ∷ []) ++ printed_from 0 es
@@ -53,17 +55,17 @@ vertex-goes (suc (suc k)) e d es =
     ∙ ap₂ (λ (z l : ℕ). (numeral (e + 1) ++ (z ∷ [])) ++ printed_from l es)
     (sym (ap (λ (b : Bool). cond {A = ℕ} b 10 32) (ne_eqb (suc (suc k)) 1 (λ z. omega arith)))) (one_less k)
 
-module _ {b : List ℕ} {start left e : ℕ} where
-  pub put_empty : left ≡ 0 → e ≡ 0 → {m : List ℕ} {f : ℕ} → Puts b start (10 ∷ []) m f → EntryPut b start left e m f e
-  put_empty h g p =
+module _ {p : Printer} {left e : ℕ} where
+  pub put_empty : left ≡ 0 → e ≡ 0 → {q : Printer} → Puts p (10 ∷ []) q → EntryPut p left e q e
+  put_empty h g puts =
       record {
         out = 10 ∷ [];
-        puts = p;
+        puts = puts;
         goes = λ es. rw (h, g) (empty_goes es);
         short = omega arith;
       }
 
-  pub put-size : left ≡ 0 → e ≢ 0 → start ≤ length b → EntryPut b start left e b start e
+  pub put-size : left ≡ 0 → e ≢ 0 → Room p 0 → EntryPut p left e p e
   put-size h d w =
       record {
         out = [];
@@ -72,13 +74,13 @@ module _ {b : List ℕ} {start left e : ℕ} where
         short = omega arith;
       }
 
-  pub put-vertex : left ≢ 0 → e ≤ 65535 → {m a : List ℕ} {f g z : ℕ} → Puts b start (numeral (e + 1)) m f → Puts m f (z ∷ []) a g → z ≡ cond (eqb left 1) 10 32
-      → EntryPut b start left e a g (left - 1)
-  put-vertex d w {z = z} p r q =
+  pub put-vertex : left ≢ 0 → e ≤ 65535 → {q r : Printer} {z : ℕ} → Puts p (numeral (e + 1)) q → Puts q (z ∷ []) r → z ≡ cond (eqb left 1) 10 32
+      → EntryPut p left e r (left - 1)
+  put-vertex d w {z = z} first second b =
       record {
         out = numeral (e + 1) ++ (z ∷ []);
-        puts = puts_then p r;
-        goes = λ es. vertex-goes left e d es ∙ ap (λ (x : ℕ). (numeral (e + 1) ++ (x ∷ [])) ++ printed_from (left - 1) es) (sym q);
+        puts = puts_then first second;
+        goes = λ es. vertex-goes left e d es ∙ ap (λ (x : ℕ). (numeral (e + 1) ++ (x ∷ [])) ++ printed_from (left - 1) es) (sym b);
         short = omega (arith, five_digits (e + 1) (omega arith), length-append (numeral (e + 1)) (z ∷ []));
       }
 
@@ -91,33 +93,33 @@ nothing zero = refl
 nothing (suc k) = refl
 
 -- the first i entries are printed, and the rest follows
-pub record SoFar (entries before after : List ℕ) (at left i : ℕ) : Type 0 where
+pub record SoFar (entries : List ℕ) (before after : Printer) (left i : ℕ) : Type 0 where
   pub out : List ℕ
-  pub puts : Puts before 0 out after at
+  pub puts : Puts before out after
   pub goes : printed entries ≡ out ++ printed_from left (drop i entries)
-  pub short : at ≤ 6 * i
+  pub short : length out ≤ 6 * i
 
-module _ {entries before : List ℕ} where
-  pub so_none : SoFar entries before before 0 0 0
+module _ {entries : List ℕ} {before : Printer} where
+  pub so_none : Room before 0 → SoFar entries before before 0 0
   unfolding printed
-  so_none =
-      record { out = []; puts = puts_none (omega arith); goes = refl; short = omega arith }
+  so_none h =
+      record { out = []; puts = puts_none h; goes = refl; short = omega arith }
 
-  pub so_more : {after : List ℕ} {at left i : ℕ} → SoFar entries before after at left i → i < length entries
-      → {next : List ℕ} {at' left' : ℕ} → EntryPut after at left (get_or entries i 0) next at' left' → SoFar entries before next at' left' (i + 1)
+  pub so_more : {after : Printer} {left i : ℕ} → SoFar entries before after left i → i < length entries
+      → {next : Printer} {left' : ℕ} → EntryPut after left (get_or entries i 0) next left' → SoFar entries before next left' (i + 1)
   so_more {left = left} {i} f h {left' = left'} p =
       record {
         out = f.out ++ p.out;
         puts = puts_then f.puts p.puts;
         goes =
             f.goes
-            ∙ ap (λ (es : List ℕ). f.out ++ printed_from left es) (drop-cons entries i 0 h ∙ ap (λ (k : ℕ). get_or entries i 0 ∷ drop k entries) (sym (add-one i)))
+            ∙ at_drop_more (λ (es : List ℕ). f.out ++ printed_from left es) entries i 0 h
             ∙ ap (λ (l : List ℕ). f.out ++ l) (p.goes (drop (i + 1) entries))
             ∙ sym (append_assoc f.out p.out (printed_from left' (drop (i + 1) entries)));
-        short = let a = p.puts.place in let b = f.short in let d = p.short in omega arith;
+        short = let a = length-append f.out p.out in let b = f.short in let d = p.short in omega arith;
       }
 
-  pub so_all : {after : List ℕ} {at left i : ℕ} → SoFar entries before after at left i → i ≡ length entries → Puts before 0 (printed entries) after at
+  pub so_all : {after : Printer} {left i : ℕ} → SoFar entries before after left i → i ≡ length entries → Puts before (printed entries) after
   so_all {left = left} f e =
       puts_as
       (sym (f.goes
@@ -129,6 +131,6 @@ module _ {entries before : List ℕ} where
 -- ---- the two other lines
 
 -- a word, a number, a space, a number and byte 10, put one after another
-pub puts-line : {b m₁ m₂ m₃ m₄ m₅ word first second : List ℕ} {c d e f g h : ℕ} → Puts b c word m₁ d → Puts m₁ d first m₂ e → Puts m₂ e (32 ∷ []) m₃ f
-    → Puts m₃ f second m₄ g → Puts m₄ g (10 ∷ []) m₅ h → Puts b c (word ++ first ++ (32 ∷ second) ++ (10 ∷ [])) m₅ h
+pub puts-line : {p₀ p₁ p₂ p₃ p₄ p₅ : Printer} {word first second : List ℕ} → Puts p₀ word p₁ → Puts p₁ first p₂ → Puts p₂ (32 ∷ []) p₃
+    → Puts p₃ second p₄ → Puts p₄ (10 ∷ []) p₅ → Puts p₀ (word ++ first ++ (32 ∷ second) ++ (10 ∷ [])) p₅
 puts-line p q r s t = puts_as (simp append_assoc) (puts_then (puts_then (puts_then (puts_then p q) r) s) t)

@@ -1,69 +1,59 @@
--- Bytes that are put into a buffer one after another. Assumes nothing.
-use Prim.Native.Nat.{ℕ, ◌≤◌}
-use mathlib.Core.Path.{◌≡◌, sym, ap, ap₂, ◌∙◌, subst}
-use mathlib.Core.List.{List, [], ◌++◌, append_assoc}
+-- Bytes that a printer puts one after another. Assumes nothing.
+use Prim.Native.Nat.{ℕ, ◌+◌}
+use mathlib.Core.Path.{◌≡◌, refl, sym, ap, ap₂, ◌∙◌, subst}
+use mathlib.Core.List.{List, [], ◌++◌}
 use native.Mathlib.Omega.{arith}
-use lib.ListN.{length, take, drop, length-append, length-drop, take-append-drop}
-use lib.Seq.{take_at, drop_at, drop-drop, length-take-le}
-use Rattle.print.specs.Put.{Puts}
+use lib.ListN.{length, take, drop, length-append, take-append-drop}
+use lib.Seq.{paste, take_at}
+use Rattle.std.proofs.lemmas.List.Edits.{paste_all, length-paste, paste-paste}
+use Rattle.print.specs.declared.Printer.{Printer}
+use Rattle.print.specs.Put.{Room, Puts}
 
 -- by what is put
-pub puts_as : {b : List ℕ} {s : ℕ} {x y a : List ℕ} {e : ℕ} → x ≡ y → Puts b s x a e → Puts b s y a e
-puts_as {b} {s} {x} {y} {a} {e} q p = subst (λ (l : List ℕ). Puts b s l a e) q p
+pub puts_as : {p q : Printer} {x y : List ℕ} → x ≡ y → Puts p x q → Puts p y q
+puts_as {p} {q} e h = subst (λ (l : List ℕ). Puts p l q) e h
 
 -- nothing is put
-pub puts_none : {b : List ℕ} {s : ℕ} → s ≤ length b → Puts b s [] b s
-puts_none {b} {s} h = record { place = omega arith; within = h; bytes = sym (take-append-drop s b) }
+pub puts_none : {p : Printer} → Room p 0 → Puts p [] p
+puts_none {p} h =
+    record { same_reference = refl; place = omega arith; within = omega arith; bytes = sym (take-append-drop p.at p.bytes.now) }
 
--- the buffer keeps its length
-pub puts-length : {b : List ℕ} {s : ℕ} {out a : List ℕ} {e : ℕ} → Puts b s out a e → length a ≡ length b
-puts-length {b} {s} {out} {a} {e} p =
-    let h = p.place in
-    let w = p.within in
-    let l = length-take-le s b (omega arith) in
-    let d = length-drop e b in
-    ap length p.bytes
-    ∙ length-append (take s b) (out ++ drop e b)
-    ∙ (let o = length-append out (drop e b) in omega arith)
+module _ {p q : Printer} {x : List ℕ} (h : Puts p x q) where
+  -- it is a copy into the buffer
+  pasted : q.bytes.now ≡ paste p.bytes.now p.at x (length x)
+  pasted =
+      h.bytes
+      ∙ ap (λ (k : ℕ). take p.at p.bytes.now ++ (x ++ drop k p.bytes.now)) h.place
+      ∙ sym (paste_all p.bytes.now p.at x (length x) refl)
 
--- and so the place after what was put is within it
-pub puts-within : {b : List ℕ} {s : ℕ} {out a : List ℕ} {e : ℕ} → Puts b s out a e → e ≤ length a
-puts-within p = let w = p.within in omega (arith, puts-length p)
+  -- the buffer keeps its length
+  pub puts-length : length q.bytes.now ≡ length p.bytes.now
+  puts-length =
+      let e = h.place in
+      let w = h.within in
+      ap length pasted ∙ length-paste p.bytes.now p.at x (length x) (omega arith) (omega arith)
 
--- what was put from the start on is what the buffer begins with
-pub puts_first : {b out a : List ℕ} {e : ℕ} → Puts b 0 out a e → take e a ≡ out
-puts_first {b} {out} {a} {e} p = ap (take e) p.bytes ∙ take_at out (drop e b) e (let h = p.place in omega arith)
+-- what was put from the buffer's start on is what it begins with
+pub puts_first : {p q : Printer} {x : List ℕ} → Puts p x q → p.at ≡ 0 → take q.at q.bytes.now ≡ x
+puts_first {p} {q} {x} h start =
+    ap (take q.at) (h.bytes ∙ ap (λ (k : ℕ). take k p.bytes.now ++ (x ++ drop q.at p.bytes.now)) start)
+    ∙ take_at x (drop q.at p.bytes.now) q.at (let e = h.place in omega (arith, start))
 
 -- one after the other
-pub puts_then : {b : List ℕ} {s : ℕ} {x m : List ℕ} {e : ℕ} {y a : List ℕ} {f : ℕ} → Puts b s x m e → Puts m e y a f → Puts b s (x ++ y) a f
-puts_then {b} {s} {x} {m} {e} {y} {a} {f} p q =
+pub puts_then : {p q r : Printer} {x y : List ℕ} → Puts p x q → Puts q y r → Puts p (x ++ y) r
+puts_then {p} {q} {r} {x} {y} h g =
+    let l = length-append x y in
+    let a = h.place in
+    let b = g.place in
+    let w = h.within in
     record {
-      place = let l = length-append x y in let h = p.place in let g = q.place in omega arith;
-      within = let l = puts-length p in let g = q.within in omega arith;
+      same_reference = g.same_reference ∙ h.same_reference;
+      place = omega arith;
+      within = let m = puts-length h in let v = g.within in omega arith;
       bytes =
-          q.bytes
-          ∙ ap₂ {C = List ℕ} (λ l r. l ++ (y ++ r)) front back
-          ∙ append_assoc (take s b) x (y ++ drop f b)
-          ∙ ap (λ (l : List ℕ). take s b ++ l) (sym (append_assoc x y (drop f b)));
+          pasted g
+          ∙ ap₂ (λ (d : List ℕ) (at : ℕ). paste d at y (length y)) (pasted h) h.place
+          ∙ paste-paste p.bytes.now p.at x y (length x) (length y) refl refl (omega arith)
+          ∙ paste_all p.bytes.now p.at (x ++ y) (length x + length y) (omega arith)
+          ∙ ap (λ (k : ℕ). take p.at p.bytes.now ++ ((x ++ y) ++ drop k p.bytes.now)) (omega arith);
     }
-  where
-    split : m ≡ (take s b ++ x) ++ drop e b
-    split = p.bytes ∙ sym (append_assoc (take s b) x (drop e b))
-
-    long : length (take s b ++ x) ≡ e
-    long =
-        let h = p.place in
-        let w = p.within in
-        let l = length-take-le s b (omega arith) in
-        length-append (take s b) x ∙ omega arith
-
-    front : take e m ≡ take s b ++ x
-    front = ap (take e) split ∙ take_at (take s b ++ x) (drop e b) e long
-
-    back : drop f m ≡ drop f b
-    back =
-        ap (λ (k : ℕ). drop k m) q.place
-        ∙ sym (drop-drop (length y) e m)
-        ∙ ap (drop (length y)) (ap (drop e) split ∙ drop_at (take s b ++ x) (drop e b) e long)
-        ∙ drop-drop (length y) e b
-        ∙ ap (λ (k : ℕ). drop k b) (sym q.place)

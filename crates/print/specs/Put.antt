@@ -1,18 +1,25 @@
--- Bytes that are put into a buffer. Assumes nothing.
+-- Bytes that a printer puts into its buffer. Assumes nothing.
 use Rattle.std.specs.Prelude.{ℕ, ◌+◌, ◌≤◌, ◌≡◌, List, [], ◌∷◌, ◌++◌, length, take, drop}
 use Rattle.model.specs.Program.{numeral}
 use Rattle.theory.specs.Printed.{printed_from}
+use Rattle.print.specs.declared.Printer.{Printer}
 
--- the buffer holds `out` from place `start` on, `end` is the place after it, and all other bytes are as before
-pub record Puts (before : List ℕ) (start : ℕ) (out after : List ℕ) (end : ℕ) : Type 0 where
-  pub place : end ≡ start + length out
-  pub within : end ≤ length before
-  pub bytes : after ≡ take start before ++ (out ++ drop end before)
+-- there is room for so many more bytes
+abbrev pub Room : Printer → ℕ → Type 0
+Room p k = p.at + k ≤ length p.bytes.now
 
--- what is printed of an entry, with so many vertices to come, is put into the buffer, and what is printed of the entries after it follows
-pub record EntryPut (before : List ℕ) (start left entry : ℕ) (after : List ℕ) (end left' : ℕ) : Type 0 where
+-- The buffer holds `out` from the place on where the next byte went before, and the next byte goes after it. All other bytes are as before, and the buffer is
+-- the same.
+pub record Puts (before : Printer) (out : List ℕ) (after : Printer) : Type 0 where
+  pub same_reference : after.bytes.ghost_name ≡ before.bytes.ghost_name
+  pub place : after.at ≡ before.at + length out
+  pub within : after.at ≤ length before.bytes.now
+  pub bytes : after.bytes.now ≡ take before.at before.bytes.now ++ (out ++ drop after.at before.bytes.now)
+
+-- what is printed of an entry, with so many vertices to come, is put, and what is printed of the entries after it follows
+pub record EntryPut (before : Printer) (left entry : ℕ) (after : Printer) (left' : ℕ) : Type 0 where
   pub out : List ℕ
-  pub puts : Puts before start out after end
+  pub puts : Puts before out after
   pub goes : (es : List ℕ) → printed_from left (entry ∷ es) ≡ out ++ printed_from left' es
   pub short : length out ≤ 6
 

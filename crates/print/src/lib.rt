@@ -1,10 +1,10 @@
 // The printed bytes: numbers in decimal, a line for each group, the end line and the refusal line, each put into a buffer.
 #![tactic(auto)]
 
-ghost use Rattle.std.specs.Prelude.{◌≡◌, ◌+◌, ◌*◌, ◌≤◌, length};
+ghost use Rattle.std.specs.Prelude.{◌≡◌, ◌+◌, ◌*◌, ◌≤◌, length, take};
 ghost use Rattle.model.specs.Program.{numeral, end_line, refused_line};
 ghost use Rattle.theory.specs.Printed.{printed};
-ghost use Rattle.print.specs.Put.{Puts, EntryPut, line};
+ghost use Rattle.print.specs.Put.{Room, Puts, EntryPut, line};
 
 use itoa::Buffer;
 
@@ -15,12 +15,28 @@ pub struct Printer<'a> {
     pub at: usize,
 }
 
-impl Printer<'_> {
+impl<'a> Printer<'a> {
+    // A printer that has put nothing yet: its next byte goes to the buffer's start.
+    pub fn new(bytes: &'a mut [u8]) -> Printer<'a>
+        ensures same_reference { result.bytes.ghost_name ≡ bytes.entry.ghost_name }
+        ensures bytes { result.bytes.now ≡ bytes.old }
+        ensures start { result.at ≡ 0 }
+    {
+        Printer { bytes, at: 0 }
+    }
+
+    // The buffer up to where the next byte goes: what was put, where it was put from the buffer's start on.
+    pub fn filled(&self) -> &[u8]
+        requires { self.now.at ≤ length self.now.bytes.now }
+        ensures { result.now ≡ take self.now.at self.now.bytes.now }
+    {
+        &self.bytes[..self.at]
+    }
+
     // Puts the bytes of a word.
     pub fn put(&mut self, word: &[u8])
-        requires { self.old.at + length word.now ≤ length self.old.bytes.now }
-        ensures same_reference { self.new.bytes.ghost_name ≡ self.old.bytes.ghost_name }
-        ensures puts { Puts self.old.bytes.now self.old.at word.now self.new.bytes.now self.new.at }
+        requires { Room self.old (length word.now) }
+        ensures { Puts self.old word.now self.new }
     {
         let end = self.at + word.len();
         self.bytes[self.at..end].copy_from_slice(word);
@@ -29,9 +45,8 @@ impl Printer<'_> {
 
     // Puts the decimal digits of k.
     pub fn put_number(&mut self, k: usize)
-        requires { self.old.at + length (numeral k) ≤ length self.old.bytes.now }
-        ensures same_reference { self.new.bytes.ghost_name ≡ self.old.bytes.ghost_name }
-        ensures puts { Puts self.old.bytes.now self.old.at (numeral k) self.new.bytes.now self.new.at }
+        requires { Room self.old (length (numeral k)) }
+        ensures { Puts self.old (numeral k) self.new }
     {
         self.put(Buffer::new().format(k).as_bytes());
     }
@@ -39,9 +54,8 @@ impl Printer<'_> {
     // Puts what is printed of one output entry, with so many vertices of the record at hand to come: "one line a group, vertices plus 1". With none
     // to come it is the size of the next record. Answers how many are to come after it.
     fn put_entry(&mut self, left: usize, entry: u16) -> usize
-        requires { self.old.at + 6 ≤ length self.old.bytes.now }
-        ensures same_reference { self.new.bytes.ghost_name ≡ self.old.bytes.ghost_name }
-        ensures puts { EntryPut self.old.bytes.now self.old.at left entry self.new.bytes.now self.new.at result }
+        requires { Room self.old 6 }
+        ensures { EntryPut self.old left entry self.new result }
     {
         if left == 0 {
             if entry == 0 {
@@ -54,11 +68,21 @@ impl Printer<'_> {
         left - 1
     }
 
+    // Puts what is printed of a page's output entries. An entry takes 6 bytes at most.
+    pub fn put_entries(&mut self, entries: &[u16])
+        requires { Room self.old (6 * length entries.now) }
+        ensures { Puts self.old (printed entries.now) self.new }
+    {
+        let mut left = 0;
+        for entry in entries {
+            left = self.put_entry(left, *entry);
+        }
+    }
+
     // Puts a word, two numbers parted by one space, and byte 10.
     fn put_line(&mut self, word: &[u8], a: usize, b: usize)
-        requires { self.old.at + length word.now + length (numeral a) + length (numeral b) + 2 ≤ length self.old.bytes.now }
-        ensures same_reference { self.new.bytes.ghost_name ≡ self.old.bytes.ghost_name }
-        ensures puts { Puts self.old.bytes.now self.old.at (line word.now a b) self.new.bytes.now self.new.at }
+        requires { Room self.old (length word.now + length (numeral a) + length (numeral b) + 2) }
+        ensures { Puts self.old (line word.now a b) self.new }
     {
         self.put(word);
         self.put_number(a);
@@ -66,37 +90,20 @@ impl Printer<'_> {
         self.put_number(b);
         self.put(b"\n");
     }
-}
 
-// Prints a page's output entries from the buffer's start on, and answers how many bytes that are. An entry takes 6 bytes at most.
-pub fn print_entries(entries: &[u16], bytes: &mut [u8]) -> usize
-    requires { 6 * length entries.now ≤ length bytes.old }
-    ensures { Puts bytes.old 0 (printed entries.now) bytes.new result }
-{
-    let mut printer = Printer { bytes, at: 0 };
-    let mut left = 0;
-    for entry in entries {
-        left = printer.put_entry(left, *entry);
+    // Puts `end GROUPS STEPS`.
+    pub fn put_end_line(&mut self, groups: u32, steps: u32)
+        requires { Room self.old 26 }
+        ensures { Puts self.old (end_line groups steps) self.new }
+    {
+        self.put_line(b"end ", groups as usize, steps as usize);
     }
-    printer.at
-}
 
-// Prints `end GROUPS STEPS` from the buffer's start on, and answers how many bytes that are.
-pub fn end_line(groups: u32, steps: u32, bytes: &mut [u8]) -> usize
-    requires { 26 ≤ length bytes.old }
-    ensures { Puts bytes.old 0 (end_line groups steps) bytes.new result }
-{
-    let mut printer = Printer { bytes, at: 0 };
-    printer.put_line(b"end ", groups as usize, steps as usize);
-    printer.at
-}
-
-// Prints `refused NUMBER LINE` from the buffer's start on, and answers how many bytes that are.
-pub fn refused_line(number: u32, line: usize, bytes: &mut [u8]) -> usize
-    requires { 40 ≤ length bytes.old }
-    ensures { Puts bytes.old 0 (refused_line number line) bytes.new result }
-{
-    let mut printer = Printer { bytes, at: 0 };
-    printer.put_line(b"refused ", number as usize, line);
-    printer.at
+    // Puts `refused NUMBER LINE`.
+    pub fn put_refused_line(&mut self, number: u32, line: usize)
+        requires { Room self.old 40 }
+        ensures { Puts self.old (refused_line number line) self.new }
+    {
+        self.put_line(b"refused ", number as usize, line);
+    }
 }

@@ -6,12 +6,13 @@ use mathlib.Core.Bool.{Bool, true, false, cond}
 use mathlib.Core.List.{List, [], ◌∷◌, ◌++◌, map, append-nil}
 use native.Mathlib.Numerals.{add-one}
 use native.Mathlib.Omega.{arith}
-use lib.ListN.{length, get_or, take, set, length-map}
+use lib.ListN.{length, get_or, take, drop, set, length-map}
 use lib.Seq.{take-suc, take-length}
+use Rattle.std.proofs.lemmas.List.{take-take, length-take-le, set-append_right}
 use Rattle.model.specs.Graph.{Graph, vertex_at}
 use Rattle.theory.specs.Search.{joined_all}
-use Rattle.theory.specs.Parts.{part, Kept, HoldsVertices, Filled}
-use Rattle.theory.proofs.Basics.Parts.{part_length, part_at, same-members, filled_none, filled_push, filled_pass, kept-state, filled_candidates}
+use Rattle.theory.specs.Parts.{part, Filled}
+use Rattle.theory.proofs.Basics.Parts.{part_length, part_at, part-front, filled_none, filled_push, filled_pass, filled_candidates}
 use Rattle.theory.proofs.Basics.Passing.{map_at}
 use Rattle.qualify.specs.Qualify.{joined_of, Sifts, Sifted}
 
@@ -49,9 +50,37 @@ module _ {G : Graph} {w₀ : List ℕ} {taken left : ℕ} (a : Sifts G w₀ take
   unfolding joined_of
   sifted_none = filled_none _ _ _ _ refl
 
-  -- the taken vertices are as they were
-  pub members-vertices : {w : List ℕ} → Kept (3 * n) (3 * n + n) w₀ w → HoldsVertices n w n taken
-  members-vertices kept i h = let k = a.few-taken in let e = kept.below (n + i) (omega arith) in let l = a.vertices i h in omega arith
+  -- the work slice before part 3, which holds the taken vertices and the left ranks
+  front-part : (k e : ℕ) → k + e ≤ 3 * n → part (take (3 * n) w₀) k e ≡ part w₀ k e
+  front-part k e h =
+      let r = a.room in
+      let l = length-take-le (3 * n) w₀ (omega arith) in
+      part-front (3 * n) (take (3 * n) w₀) w₀ (take-take (3 * n) (3 * n) w₀ (omega arith)) (omega (arith, l)) (omega arith) k e h
+
+  -- as it is lent: the taken vertices
+  pub taken-lent : take (n + taken - n) (drop n (take (3 * n) w₀)) ≡ part w₀ n taken
+  taken-lent =
+      let e : n + taken - n ≡ taken = omega arith in
+      ap (λ (k : ℕ). take k (drop n (take (3 * n) w₀))) e ∙ front-part n taken (let k = a.few-taken in omega arith)
+
+  -- and the left ranks
+  pub lefts-lent : take (2 * n + left - 2 * n) (drop (2 * n) (take (3 * n) w₀)) ≡ part w₀ (2 * n) left
+  lefts-lent =
+      let e : 2 * n + left - 2 * n ≡ left = omega arith in
+      ap (λ (k : ℕ). take k (drop (2 * n) (take (3 * n) w₀))) e ∙ front-part (2 * n) left (let k = a.few-left in omega arith)
+
+  pub rank-read : (j : ℕ) → j < left → get_or (part w₀ (2 * n) left) j 0 ≡ get_or w₀ (2 * n + j) 0
+  rank-read j h = part_at w₀ (2 * n) left j h
+
+  pub lefts-full : length (part w₀ (2 * n) left) ≡ left
+  lefts-full = part-full
+
+  -- candidate m goes to entry m of what comes after
+  pub candidate_set : (ys : List ℕ) (m v : ℕ) → take (3 * n) w₀ ++ set ys m v ≡ set (take (3 * n) w₀ ++ ys) (3 * n + m) v
+  candidate_set ys m v =
+      let l = length-take-le (3 * n) w₀ (let r = a.room in omega arith) in
+      let e : 3 * n + m - 3 * n ≡ m = omega arith in
+      sym (set-append_right (take (3 * n) w₀) ys (3 * n) (3 * n + m) v l (omega arith) ∙ ap (λ (k : ℕ). take (3 * n) w₀ ++ set ys k v) e)
 
   module _ {w : List ℕ} {m j : ℕ} (s : Filled (3 * n) (3 * n + n) (sifted G w₀ taken left j) w₀ w m) where
     -- all are looked through
@@ -67,39 +96,32 @@ module _ {G : Graph} {w₀ : List ℕ} {taken left : ℕ} (a : Sifts G w₀ take
               (let k = a.few-left in omega arith);
         }
 
-    -- the rank that is looked at is as it was
-    module _ (h : j < left) {r : ℕ} (read : r ≡ get_or w (2 * n + j) 0) where
-      rank-kept : r ≡ get_or w₀ (2 * n + j) 0
-      rank-kept = read ∙ (let k = a.few-left in s.kept.below (2 * n + j) (omega arith))
-
+    -- the rank that is looked at
+    module _ (h : j < left) {r : ℕ} (read : r ≡ get_or w₀ (2 * n + j) 0) where
       pub rank-small : r < n
-      rank-small = let e = rank-kept in let l = a.left_ranks_lem j h in omega arith
+      rank-small = let l = a.left_ranks_lem j h in omega (arith, read)
 
-      -- and v is its vertex
+      -- and its vertex v
       module _ {v : ℕ} (vertex-is : v ≡ vertex_at G r) where
         vertex-listed : v ≡ get_or lefts j 0
         vertex-listed =
             let l = part-full in
             vertex-is
-            ∙ ap (vertex_at G) (rank-kept ∙ sym (part_at w₀ (2 * n) left j h))
+            ∙ ap (vertex_at G) (read ∙ sym (part_at w₀ (2 * n) left j h))
             ∙ sym (map_at (vertex_at G) (part w₀ (2 * n) left) j (omega arith))
 
-        further : (b : Bool) → b ≡ joined_all G v (part w n (n + taken - n))
-            → sifted G w₀ taken left (j + 1) ≡ sifted G w₀ taken left j ++ cond b (v ∷ []) []
+        further : (b : Bool) → b ≡ joined_all G v (part w₀ n taken) → sifted G w₀ taken left (j + 1) ≡ sifted G w₀ taken left j ++ cond b (v ∷ []) []
         further b e =
             let l = lefts_length in
             let us = part w₀ n taken in
             ap (joined_of G us) (ap (λ (i : ℕ). take i lefts) (add-one j) ∙ take-suc lefts j 0 (omega arith))
             ∙ joined_of_push G us (take j lefts) (get_or lefts j 0)
             ∙ ap (λ (u : ℕ). sifted G w₀ taken left j ++ cond (joined_all G u us) (u ∷ []) []) (sym vertex-listed)
-            ∙ ap (λ (c : Bool). sifted G w₀ taken left j ++ cond c (v ∷ []) [])
-            (ap (joined_all G v) (sym (same-members (kept-state s.kept a.few-taken))) ∙ sym e)
+            ∙ ap (λ (c : Bool). sifted G w₀ taken left j ++ cond c (v ∷ []) []) (sym e)
 
         -- it is written where it is joined to all, and else passed over
-        pub sifted_hit : m ≤ j → true ≡ joined_all G v (part w n (n + taken - n))
-            → Filled (3 * n) (3 * n + n) (sifted G w₀ taken left (j + 1)) w₀ (set w (3 * n + m) v) (m + 1)
+        pub sifted_hit : m ≤ j → true ≡ joined_all G v (part w₀ n taken) → Filled (3 * n) (3 * n + n) (sifted G w₀ taken left (j + 1)) w₀ (set w (3 * n + m) v) (m + 1)
         sifted_hit f e = let k = a.few-left in let r = a.room in filled_push _ _ _ s v _ (further true e) (omega arith) (omega arith)
 
-        pub sifted_miss : false ≡ joined_all G v (part w n (n + taken - n))
-            → Filled (3 * n) (3 * n + n) (sifted G w₀ taken left (j + 1)) w₀ w m
+        pub sifted_miss : false ≡ joined_all G v (part w₀ n taken) → Filled (3 * n) (3 * n + n) (sifted G w₀ taken left (j + 1)) w₀ w m
         sifted_miss e = filled_pass _ _ _ s _ (further false e ∙ append-nil _)

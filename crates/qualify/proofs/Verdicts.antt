@@ -5,7 +5,6 @@ use mathlib.Core.Path.{◌≡◌, refl, sym, ap, ap₂, ◌∙◌, subst}
 use mathlib.Core.Bool.{Bool, true, false, ◌&&◌, not, true≢false}
 use mathlib.Core.List.{List, map}
 use mathlib.Core.Logic.{◌≢◌}
-use native.Mathlib.Nat.{add-zero}
 use native.Mathlib.Omega.{arith}
 use lib.ListN.{length, get_or}
 use borrow.Author.Tests.{eqb-true}
@@ -18,17 +17,19 @@ use Rattle.theory.specs.Search.{Candidates}
 use Rattle.theory.proofs.Basics.Tests.{test_and, test_self, fails}
 use Rattle.theory.proofs.Basics.Passing.{passing-listed}
 use Rattle.theory.proofs.Basics.PassingParts.{passing-count}
-use Rattle.isolation.specs.declared.Settings.{Settings}
+use Rattle.isolation.specs.declared.criterion.Criterion.{Criterion}
 use Rattle.isolation.specs.declared.Tally.{Tally}
-use Rattle.isolation.specs.Numbers.{settings_of, isolated_of, beaten_of, TallyOf}
+use Rattle.isolation.specs.Numbers.{settings_in, isolated_of, beaten_of, TallyOf}
 use Rattle.theory.specs.Parts.{part, StateKept}
 use Rattle.larger.specs.Search.{Posed, Tested}
-use Rattle.theory.proofs.Basics.Parts.{state_then}
+use Rattle.theory.proofs.Basics.Parts.{part_length, state_then}
+use Rattle.graph.proofs.Vertices.{part-vertices}
 use Rattle.state.specs.declared.State.{State}
 use Rattle.state.specs.State.{taken_ranks, left_ranks, Stands}
 use Rattle.qualify.specs.Qualify.{joined_of, candidates_of, Sifts, Sifted, tally_of, read_tally, TallyFits, Asks, SaysQualifies}
 use Rattle.state.proofs.Taken.{taken-length}
-use Rattle.state.proofs.StandsFor.{taken-count, left-count, vertex-entry, left-entry, vertex_low, left-few, stands-kept}
+use Rattle.state.proofs.Vertices.{vertices-lent}
+use Rattle.state.proofs.StandsFor.{taken-count, left-count, left-entry, vertex_low, left-few, stands-kept}
 use Rattle.qualify.proofs.TakenSet.{taken-tally, taken-clique, taken-candidates, found-apart, found_untaken, found_open, found_by}
 
 -- two tests of which no number passes both pass no more than n numbers below n
@@ -62,7 +63,7 @@ ranks-fit G p =
 pub same-tally : (x y : Tally) → x.members ≡ y.members → x.sum ≡ y.sum → x.least ≡ y.least → x.largest ≡ y.largest → x ≡ y
 same-tally x y a b c d i = record { members = a i; sum = b i; least = c i; largest = d i }
 
-module _ {G : Graph} {w : List ℕ} {q : Settings} {s : State} (a : Asks G w q s) where
+module _ {G : Graph} {w : List ℕ} {q : Criterion} {s : State} (a : Asks G w q s) where
   abbrev p₀ : Position
   p₀ = a.stands.0
 
@@ -80,47 +81,48 @@ module _ {G : Graph} {w : List ℕ} {q : Settings} {s : State} (a : Asks G w q s
 
   -- ---- what the tests say
 
-  still : ((p : Position) → Stands G p w s → false ≡ found (rules G (settings_of q)) p) → SaysQualifies G w w q s false
+  still : ((p : Position) → Stands G p w s → false ≡ found (rules G (settings_in q)) p) → SaysQualifies G w w q s false
   still f = record { answer = f; stands = λ p h. h; length-kept = refl }
 
   pub judged_open : s.decided < G.size → SaysQualifies G w w q s false
   judged_open l =
-      still (λ p h. let e = h.long in sym (found_open G p (settings_of q) s.decided (omega arith) (h.still_open s.decided (omega arith))))
+      still (λ p h. let e = h.long in sym (found_open G p (settings_in q) s.decided (omega arith) (h.still_open s.decided (omega arith))))
 
   pub length_taken : (p : Position) → Stands G p w s → length (taken_list G p) ≡ s.taken
   length_taken p h = taken-length G p ∙ taken-count G p w s h
 
   pub judged_untaken : s.taken ≡ 0 → SaysQualifies G w w q s false
-  judged_untaken e = still (λ p h. sym (found_untaken G p (settings_of q) (length_taken p h ∙ e)))
+  judged_untaken e = still (λ p h. sym (found_untaken G p (settings_in q) (length_taken p h ∙ e)))
 
   pub judged_apart : s.apart ≡ true → SaysQualifies G w w q s false
-  judged_apart e = still (λ p h. sym (found-apart G p (settings_of q) (sym h.apart ∙ e)))
+  judged_apart e = still (λ p h. sym (found-apart G p (settings_in q) (sym h.apart ∙ e)))
 
   module _ (all : G.size ≤ s.decided) (taken : s.taken ≢ 0) (met : s.apart ≡ false) where
     some : 0 < s.taken
     some = omega (arith, taken)
 
-    pub tally-fits : TallyFits G w s
+    -- the taken vertices, as they are lent
+    abbrev members : List ℕ
+    members = part w G.size (G.size + s.taken - G.size)
+
+    pub tally-fits : TallyFits G.size members s
     tally-fits =
         record {
-          work-fits = let r = h₀.room in omega arith;
+          whole = let l = taken-few in omega (arith, h₀.room, part_length w G.size (G.size + s.taken - G.size) (omega (arith, h₀.room)));
           some = some;
-          few = taken-few;
-          vertices = vertex_low h₀;
+          vertices = part-vertices G.size w G.size _ (λ i l. vertex_low h₀ i (omega arith));
         }
 
     -- what is read is the taken set's numbers
-    tally-is : (p : Position) → Stands G p w s → read_tally G w s ≡ tally_of G p
+    tally-is : (p : Position) → Stands G p w s → read_tally G members s ≡ tally_of G p
     tally-is p h =
-        let l = length_taken p h in
-        let first = vertex-entry G p w s h 0 some in
-        let last = vertex-entry G p w s h (s.taken - 1) (omega arith) in
-        let zero_in = ap (λ (k : ℕ). get_or w k 0) (sym (add-zero G.size)) in
+        let l = sym (length_taken p h) in
+        let e = vertices-lent w G.size s.taken ∙ h.vertices in
         same-tally _ _
-        (sym l)
+        l
         h.sum
-        (ap (degree G) (zero_in ∙ first))
-        (ap (degree G) (last ∙ ap (λ (k : ℕ). get_or (taken_list G p) (k - 1) 0) (sym l)))
+        (ap (λ (vs : List ℕ). degree G (get_or vs 0 0)) e)
+        (ap₂ (λ (vs : List ℕ) (k : ℕ). degree G (get_or vs (k - 1) 0)) e l)
 
     some-listed : (p : Position) → Stands G p w s → 0 < length (taken_list G p)
     some-listed p h = let l = length_taken p h in omega arith
@@ -129,11 +131,11 @@ module _ {G : Graph} {w : List ℕ} {q : Settings} {s : State} (a : Asks G w q s
     all_decided_lem p h r l = h.decided r (omega arith)
 
     found-is : (p : Position) → Stands G p w s
-        → found (rules G (settings_of q)) p ≡ (isolated_of q (tally_of G p) && not (beaten_of G q (tally_of G p) (candidates_of G p)))
+        → found (rules G (settings_in q)) p ≡ (isolated_of q (tally_of G p) && not (beaten_of G q (tally_of G p) (candidates_of G p)))
     found-is p h =
-        found_by G p h.long h.bytes (all_decided_lem p h) (some-listed p h) loopless symmetric (settings_of q) (sym h.apart ∙ met)
+        found_by G p h.long h.bytes (all_decided_lem p h) (some-listed p h) loopless symmetric (settings_in q) (sym h.apart ∙ met)
 
-    module _ {y : Tally} (e : y ≡ read_tally G w s) where
+    module _ {y : Tally} (e : y ≡ read_tally G members s) where
       isolated-is : (p : Position) → Stands G p w s → isolated_of q (tally_of G p) ≡ isolated_of q y
       isolated-is p h = ap (isolated_of q) (sym (e ∙ tally-is p h))
 
@@ -174,7 +176,6 @@ module _ {G : Graph} {w : List ℕ} {q : Settings} {s : State} (a : Asks G w q s
         posed =
             record {
               set = taken_set G p₀;
-              factor = a.factor;
               room = room-left;
               loopless = loopless;
               symmetric = symmetric;

@@ -1,15 +1,16 @@
 -- Which vertices can be added to the taken ones, and whether the taken set qualifies, as code computes them from the state of the walk.
 -- Assumes nothing.
-use Rattle.std.specs.Prelude.{ℕ, ◌+◌, ◌-◌, ◌*◌, ◌≤◌, ◌<◌, ◌≡◌, Bool, cond, List, [], ◌∷◌, map, length, get_or}
+use Rattle.std.specs.Prelude.{ℕ, ◌-◌, ◌*◌, ◌≤◌, ◌<◌, ◌≡◌, Bool, cond, List, [], ◌∷◌, map, length, get_or}
 use Rattle.model.specs.Graph.{Graph, degree, vertex_at}
 use Rattle.model.specs.Meaning.{Simple}
 use Rattle.model.specs.Walk.{Position, found}
 use Rattle.model.specs.Listing.{taken_list, rules}
 use Rattle.theory.specs.Search.{joined_all}
-use Rattle.isolation.specs.declared.Settings.{Settings}
+use Rattle.isolation.specs.declared.criterion.Criterion.{Criterion}
 use Rattle.isolation.specs.declared.Tally.{Tally}
-use Rattle.isolation.specs.Numbers.{settings_of, FactorFits}
+use Rattle.isolation.specs.Numbers.{settings_in}
 use Rattle.theory.specs.Parts.{part, members_at, left_ranks_at, HoldsVertices, CandidatesIn}
+use Rattle.graph.specs.Vertices.{VerticesOf}
 use Rattle.state.specs.declared.State.{State}
 use Rattle.state.specs.State.{left_ranks, degrees_of, Stands, StandsForOne}
 
@@ -45,31 +46,29 @@ tally_of G p =
       largest = degree G (get_or (taken_list G p) (length (taken_list G p) - 1) 0);
     }
 
--- the same as code reads them off the state and the taken vertices in part 1 of the work slice
+-- the same as code reads them off the state and the taken vertices
 abbrev pub read_tally : Graph → List ℕ → State → Tally
-read_tally G w s =
+read_tally G vs s =
     record {
       members = s.taken;
       sum = s.sum;
-      least = degree G (get_or w (members_at G.size) 0);
-      largest = degree G (get_or w (members_at G.size + (s.taken - 1)) 0);
+      least = degree G (get_or vs 0 0);
+      largest = degree G (get_or vs (s.taken - 1) 0);
     }
 
--- what reading them asks for
-pub record TallyFits (G : Graph) (w : List ℕ) (s : State) : Type 0 where
-  pub work-fits : 8 * G.size ≤ length w
+-- what reading them asks for: as many vertices of a graph on n as the state counts, and at least one
+pub record TallyFits (n : ℕ) (vs : List ℕ) (s : State) : Type 0 where
+  pub whole : length vs ≡ s.taken
   pub some : 0 < s.taken
-  pub few : s.taken ≤ G.size
-  pub vertices : HoldsVertices G.size w (members_at G.size) s.taken
+  pub vertices : VerticesOf n vs
 
--- what `qualifies` asks for beside the ranked table: its graph is one of document 01, the factor is not refused, and the state stands for a position
-pub record Asks (G : Graph) (w : List ℕ) (q : Settings) (s : State) : Type 0 where
+-- what `qualifies` asks for beside the ranked table: its graph is one of document 01, and the state stands for a position
+pub record Asks (G : Graph) (w : List ℕ) (q : Criterion) (s : State) : Type 0 where
   pub simple : Simple G
-  pub factor : FactorFits q
   pub stands : StandsForOne G w s
 
 -- its answer for each position for which the state stands, and that the state still stands for it
-pub record SaysQualifies (G : Graph) (before after : List ℕ) (q : Settings) (s : State) (r : Bool) : Type 0 where
-  pub answer : (p : Position) → Stands G p before s → r ≡ found (rules G (settings_of q)) p
+pub record SaysQualifies (G : Graph) (before after : List ℕ) (q : Criterion) (s : State) (r : Bool) : Type 0 where
+  pub answer : (p : Position) → Stands G p before s → r ≡ found (rules G (settings_in q)) p
   pub stands : (p : Position) → Stands G p before s → Stands G p after s
   pub length-kept : length after ≡ length before

@@ -23,9 +23,9 @@ use Rattle.theory.proofs.Basics.Passing.{passing-listed, passing-has, passing-on
 use Rattle.theory.proofs.Basics.PassingParts.{passing-same, passing-count}
 use Rattle.theory.proofs.Search.Members.{common-list}
 use Rattle.theory.proofs.Search.Maximal.{qualifies-tally}
-use Rattle.isolation.specs.declared.Settings.{Settings}
+use Rattle.isolation.specs.declared.criterion.Criterion.{Criterion}
 use Rattle.isolation.specs.declared.Tally.{Tally}
-use Rattle.isolation.specs.Numbers.{settings_of, Small, isolated_of, beaten_of, TallyOf}
+use Rattle.isolation.specs.Numbers.{settings_in, isolated_of, beaten_of, TallyOf}
 use Rattle.input.proofs.Refusals.{InputHeld}
 use Rattle.theory.specs.Parts.{part, members_at, candidates_at, CandidatesIn}
 use Rattle.larger.specs.Search.{Posed, Tested}
@@ -34,7 +34,7 @@ use Rattle.query.specs.Query.{QueryReady, Decided}
 use Rattle.theory.proofs.Basics.Parts.{part_length, part_at}
 use Rattle.graph.specs.Held.{graph_in}
 use Rattle.graph.specs.declared.lent.Lent.{Lent}
-use Rattle.larger.proofs.Joined.{part-vertices}
+use Rattle.graph.proofs.Vertices.{part-vertices}
 use Rattle.members.proofs.Listed.{clique_test}
 use Rattle.query.proofs.Refusals.{query-accepted}
 
@@ -59,7 +59,7 @@ both_fit G S =
 
 -- ---- one set query that is accepted
 
-module _ {L : Lent} {bs w₀ : List ℕ} {s : Settings} (ready : QueryReady L bs w₀ s) where
+module _ {L : Lent} {bs w₀ : List ℕ} {q : Criterion} (ready : QueryReady L bs w₀ q) where
   abbrev n : ℕ
   n = L.table.n
 
@@ -69,8 +69,8 @@ module _ {L : Lent} {bs w₀ : List ℕ} {s : Settings} (ready : QueryReady L bs
   abbrev members : VertexSet
   members = by_bytes bs
 
-  pub accepted : InputHeld L s (length bs) (length w₀)
-  accepted = query-accepted L s bs (length w₀) ready.accepted
+  pub accepted : InputHeld L (length bs) (length w₀)
+  accepted = query-accepted L (settings_in q) bs (length w₀) ready.accepted
 
   loopless : Loopless graph
   loopless = accepted.simple.loopless
@@ -122,15 +122,15 @@ module _ {L : Lent} {bs w₀ : List ℕ} {s : Settings} (ready : QueryReady L bs
     pub members-few : length (part w₁ n (n + k - n)) ≤ n
     members-few = let f = wrote.few in rw (same-part, long-members) f
 
-    decided : {r : Bool} → r ≡ qualifies graph (settings_of s) members → Decided graph bs w₀ w₁ (settings_of s) r
+    decided : {r : Bool} → r ≡ qualifies graph (settings_in q) members → Decided graph bs w₀ w₁ (settings_in q) r
     decided e = record { answer = e; length-kept = wrote.length-kept }
 
     -- a set that is no clique does not qualify
-    not-clique : (Clique graph members → ⊥) → Decided graph bs w₀ w₁ (settings_of s) false
-    not-clique f = decided (sym (fails (qualifies graph (settings_of s) members) (λ q. f ((qualifies_iff graph (settings_of s) members).0 q).isolated_clique_lem.clique)))
+    not-clique : (Clique graph members → ⊥) → Decided graph bs w₀ w₁ (settings_in q) false
+    not-clique f = decided (sym (fails (qualifies graph (settings_in q) members) (λ yes. f ((qualifies_iff graph (settings_in q) members).0 yes).isolated_clique_lem.clique)))
 
     -- no member
-    pub decide_empty : k ≡ 0 → Decided graph bs w₀ w₁ (settings_of s) false
+    pub decide_empty : k ≡ 0 → Decided graph bs w₀ w₁ (settings_in q) false
     decide_empty e = not-clique (λ c. let m = (has-members.complete _ c.nonempty.1).1 in let l = long-members in omega arith)
 
     -- pairwise joined, where there are members
@@ -138,7 +138,7 @@ module _ {L : Lent} {bs w₀ : List ℕ} {s : Settings} (ready : QueryReady L bs
     cliques some = clique_test graph symmetric members (part w₁ (members_at n) k) has-members (let l = long-members in omega arith)
 
     -- two members that are not joined
-    pub decide_apart : k ≢ 0 → pairwise graph (part w₁ (members_at n) k) ≡ false → Decided graph bs w₀ w₁ (settings_of s) false
+    pub decide_apart : k ≢ 0 → pairwise graph (part w₁ (members_at n) k) ≡ false → Decided graph bs w₀ w₁ (settings_in q) false
     decide_apart some e = not-clique (λ c. true≢false (sym ((cliques some).1 c) ∙ e))
 
     -- there are members, they are pairwise joined, and y has their numbers
@@ -155,27 +155,23 @@ module _ {L : Lent} {bs w₀ : List ℕ} {s : Settings} (ready : QueryReady L bs
       tally = counted.tallies graph refl L.listed.degrees members has-members
 
       -- what the isolation test requires
-      pub small-numbers : Small s y.members
+      pub small-numbers : y.members ≤ 1024
       small-numbers =
-          record {
-            factor = accepted.factor;
-            members =
-                let a = tally.members in
-                let b = both_fit graph members in
-                let d = L.table.fits.small in
-                omega arith;
-          }
+          let a = tally.members in
+          let b = both_fit graph members in
+          let d = L.table.fits.small in
+          omega arith
 
-      by_tally : (vs : List ℕ) → Candidates graph members vs → qualifies graph (settings_of s) members ≡ (isolated_of s y && not (beaten_of graph s y vs))
+      by_tally : (vs : List ℕ) → Candidates graph members vs → qualifies graph (settings_in q) members ≡ (isolated_of q y && not (beaten_of graph q y vs))
       by_tally vs A =
-          qualifies-tally graph loopless symmetric members clique vs A y.members y.sum y.least y.largest tally (settings_of s)
+          qualifies-tally graph loopless symmetric members clique vs A y.members y.sum y.least y.largest tally (settings_in q)
 
       -- not isolated
-      pub decide_open : isolated_of s y ≡ false → Decided graph bs w₀ w₁ (settings_of s) false
+      pub decide_open : isolated_of q y ≡ false → Decided graph bs w₀ w₁ (settings_in q) false
       decide_open e =
           decided
           (sym (by_tally (passing graph.size (common graph members)) (passing-candidates graph members)
-          ∙ ap (λ (b : Bool). b && not (beaten_of graph s y (passing graph.size (common graph members)))) e))
+          ∙ ap (λ (b : Bool). b && not (beaten_of graph q y (passing graph.size (common graph members)))) e))
 
       module _ {w₂ : List ℕ} {m : ℕ}
           (found : CandidatesIn n k (passing n (λ v. joined_all graph v (part w₁ (members_at n) k))) w₁ w₂ m) where
@@ -189,13 +185,12 @@ module _ {L : Lent} {bs w₀ : List ℕ} {s : Settings} (ready : QueryReady L bs
         has-candidates = subst (λ (vs : List ℕ). Candidates graph members vs) (sym candidates_are) (passing-candidates graph members)
 
         -- what `beaten` requires
-        pub beaten_asks : (4 * n ≤ length w₂) × Posed graph w₂ s y m
+        pub beaten_asks : (4 * n ≤ length w₂) × Posed graph w₂ q y m
         beaten_asks =
             let l = long in (
               omega arith,
               record {
                 set = members;
-                factor = accepted.factor;
                 room =
                     let a = tally.members in
                     let b = both_fit graph members in
@@ -211,12 +206,12 @@ module _ {L : Lent} {bs w₀ : List ℕ} {s : Settings} (ready : QueryReady L bs
             )
 
         -- an isolated clique qualifies where it is not beaten
-        pub decide_beaten : isolated_of s y ≡ true → {w₃ : List ℕ} {r : Bool} → Tested graph w₂ w₃ s y m r → Decided graph bs w₀ w₃ (settings_of s) (not r)
+        pub decide_beaten : isolated_of q y ≡ true → {w₃ : List ℕ} {r : Bool} → Tested graph w₂ w₃ q y m r → Decided graph bs w₀ w₃ (settings_in q) (not r)
         decide_beaten isolated tested =
             record {
               answer =
                   ap not tested.answer
-                  ∙ ap (λ (b : Bool). b && not (beaten_of graph s y (part w₂ (candidates_at n) m))) (sym isolated)
+                  ∙ ap (λ (b : Bool). b && not (beaten_of graph q y (part w₂ (candidates_at n) m))) (sym isolated)
                   ∙ sym (by_tally (part w₂ (candidates_at n) m) has-candidates);
               length-kept = tested.kept.length-kept ∙ found.kept.length-kept ∙ wrote.length-kept;
             }

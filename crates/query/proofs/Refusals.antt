@@ -8,8 +8,6 @@ use Rattle.model.specs.Calls.{refuse, over, refuse_input, refuse_query}
 use Rattle.theory.proofs.Basics.Refusals.{else_none, else_found, else_passed}
 use Rattle.graph.specs.Table.{lent}
 use Rattle.graph.specs.declared.lent.Lent.{Lent}
-use Rattle.isolation.specs.declared.Settings as code
-use Rattle.isolation.specs.Numbers.{settings_of}
 use Rattle.input.proofs.Refusals.{InputHeld, input_held}
 
 module _ (L : LentGraph) (s : Settings) (bs : List ℕ) (work : ℕ) where
@@ -23,10 +21,10 @@ module _ (L : LentGraph) (s : Settings) (bs : List ℕ) (work : ℕ) where
   unfolding refuse_query
   query-bytes e o = sym (else_none (sym e) _ ∙ rw o)
 
--- a set query that is accepted has a graph that is simple, a factor in range, a set of n bytes and a work slice that is long enough
-pub query-accepted : (l : Lent) (q : code.Settings) (bs : List ℕ) (work : ℕ) → refuse_query (lent l.table.n l.table.bytes.now l.degrees.now) (settings_of q) bs work ≡ 0
-    → InputHeld l q (length bs) work
+-- a set query that is accepted has a graph that is simple, a set of n bytes and a work slice that is long enough
+pub query-accepted : (l : Lent) (s : Settings) (bs : List ℕ) (work : ℕ) → refuse_query (lent l.table.n l.table.bytes.now l.degrees.now) s bs work ≡ 0
+    → InputHeld l (length bs) work
 unfolding refuse_query
-query-accepted l q bs work h =
-    input_held l (record { table = record { vertices = refl; bytes = refl }; degrees = refl })
-    (else_passed (refuse_input (lent l.table.n l.table.bytes.now l.degrees.now) (settings_of q) (length bs) work) _ h).0
+query-accepted l s bs work h =
+    input_held s l (record { table = record { vertices = refl; bytes = refl }; degrees = refl })
+    (else_passed (refuse_input (lent l.table.n l.table.bytes.now l.degrees.now) s (length bs) work) _ h).0

@@ -10,13 +10,13 @@ use Rattle.refusal.specs.declared.Refusal.{Refusal}
 use Rattle.refusal.specs.Numbers.{number}
 use Rattle.graph.specs.Table.{lent}
 use Rattle.graph.specs.declared.lent.Lent.{Lent}
-use Rattle.isolation.specs.declared.Settings.{Settings}
+use Rattle.isolation.specs.declared.criterion.Criterion.{Criterion}
 use Rattle.query.specs.declared.SetAnswer.{SetAnswer}
-use Rattle.isolation.specs.Numbers.{settings_of}
+use Rattle.isolation.specs.Numbers.{settings_in}
 
 -- the call is accepted
-pub record QueryReady (l : Lent) (bs w : List ℕ) (s : Settings) : Type 0 where
-  pub accepted : refuse_query (lent l.table.n l.table.bytes.now l.degrees.now) (settings_of s) bs (length w) ≡ 0
+pub record QueryReady (l : Lent) (bs w : List ℕ) (q : Criterion) : Type 0 where
+  pub accepted : refuse_query (lent l.table.n l.table.bytes.now l.degrees.now) (settings_in q) bs (length w) ≡ 0
 
 -- whether the set qualifies, and the work slice as long as before
 pub record Decided (G : Graph) (bs before after : List ℕ) (s : groups.Settings) (r : Bool) : Type 0 where

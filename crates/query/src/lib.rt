@@ -6,13 +6,13 @@ ghost use Rattle.model.specs.Calls.{refuse_query};
 ghost use Rattle.refusal.specs.Numbers.{fault};
 ghost use Rattle.graph.specs.Table.{lent};
 ghost use Rattle.graph.specs.Held.{graph_in};
-ghost use Rattle.graph.specs.Given.{LentAs};
-ghost use Rattle.isolation.specs.Numbers.{settings_of};
+ghost use Rattle.isolation.specs.Numbers.{settings_of, settings_in};
+ghost use Rattle.input.specs.Given.{InputAs};
 ghost use Rattle.query.specs.Query.{QueryReady, Decided, answer_of, Answers};
 
 use graph::{Lent, any_over};
 use input::lent_input;
-use isolation::Settings;
+use isolation::{Criterion, Settings};
 use larger::beaten;
 use members::{common_neighbours, members_of, pairwise_joined, tally_of};
 use refusal::Refusal;
@@ -43,8 +43,9 @@ impl From<Result<bool, Refusal>> for SetAnswer {
     }
 }
 
-// The graph on n vertices that a table and a list of degrees hold, for a set query with a work slice of `length` entries, or the refusal: 1 to 5, 42 and
-// 6 to 11 of document 01, "Turned back by the input", and document 02, C-12, in this order. Reads the table, the degrees and the set.
+// The graph on n vertices that a table and a list of degrees hold and the criterion of the settings, for a set query with a work slice of `length` entries,
+// or the refusal: 1 to 5, 42 and 6 to 11 of document 01, "Turned back by the input", and document 02, C-12, in this order. Reads the table, the degrees and
+// the set.
 fn lent_query<'a>(
     table: &'a [u8],
     degrees: &'a [u16],
@@ -52,22 +53,22 @@ fn lent_query<'a>(
     length: usize,
     n: usize,
     s: Settings,
-) -> Result<Lent<'a>, Refusal>
+) -> Result<(Lent<'a>, Criterion), Refusal>
     ensures refused { fault result ≡ refuse_query (lent n table.now degrees.now) (settings_of s) set.now length }
-    ensures held { IfOk result (LentAs n table.now degrees.now) }
+    ensures held { IfOk result (InputAs n table.now degrees.now s) }
 {
-    let lent = lent_input(table, degrees, n, s, set.len(), length)?;
+    let input = lent_input(table, degrees, n, s, set.len(), length)?;
     if any_over(1, set) {
         return Err(Refusal::SetByte);
     }
-    Ok(lent)
+    Ok(input)
 }
 
 // Whether the set qualifies, where the call is not refused: document 002, definitions 1 and 2, a clique that is
 // isolated and that no larger one of its kind contains. Reads the table, the degrees and the set; writes parts 1 and 3 of work.
-fn set_qualifies(lent: &Lent<'_>, set: &[u8], work: &mut [u16], s: Settings) -> bool
-    requires { QueryReady lent.now set.now work.old s }
-    ensures { Decided (graph_in lent.now.table) set.now work.old work.new (settings_of s) result }
+fn set_qualifies(lent: &Lent<'_>, set: &[u8], work: &mut [u16], q: Criterion) -> bool
+    requires { QueryReady lent.now set.now work.old q }
+    ensures { Decided (graph_in lent.now.table) set.now work.old work.new (settings_in q) result }
 {
     let n = lent.table.n;
     let k = members_of(set, work);
@@ -79,11 +80,11 @@ fn set_qualifies(lent: &Lent<'_>, set: &[u8], work: &mut [u16], s: Settings) -> 
         return false;
     }
     let y = tally_of(lent.degrees, members);
-    if !s.isolates(y) {
+    if !q.isolates(y) {
         return false;
     }
     let m = common_neighbours(&lent.table, work, k);
-    !beaten(lent, work, s, y, m)
+    !beaten(lent, work, q, y, m)
 }
 
 // Whether the set qualifies, or the refusal of the call. Reads the table, the degrees and the set; writes work only where the call is accepted.
@@ -97,8 +98,8 @@ fn decide(
 ) -> Result<bool, Refusal>
     ensures { Answers (lent n table.now degrees.now) set.now work.old work.new s.notion s.kind s.factor (answer_of result) }
 {
-    let lent = lent_query(table, degrees, set, work.len(), n, s)?;
-    Ok(set_qualifies(&lent, set, work, s))
+    let (lent, q) = lent_query(table, degrees, set, work.len(), n, s)?;
+    Ok(set_qualifies(&lent, set, work, q))
 }
 
 // The set query, for arguments of any length and contents: table, the degrees of its graph, set (n bytes, 1 for a member), a work slice, n, notion, kind

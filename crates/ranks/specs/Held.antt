@@ -2,13 +2,8 @@
 -- Assumes nothing.
 use Rattle.model.specs.Graph.{Graph}
 use Rattle.graph.specs.Held.{graph_in}
-use Rattle.ranks.specs.declared.ordered.Ordered.{Ordered}
 use Rattle.ranks.specs.declared.ranked.Ranked.{Ranked}
 
 -- the graph of the table
-abbrev pub ordered_graph : Ordered → Graph
-ordered_graph g = graph_in g.table
-
--- and where the degrees stand beside it
 abbrev pub ranked_graph : Ranked → Graph
-ranked_graph g = ordered_graph g.ordered
+ranked_graph g = graph_in g.lent.table

@@ -1,12 +1,12 @@
-// A graph with its rank order and its degrees.
-ghost use Rattle.graph.specs.Held.{Lists};
+// A graph with its degrees and its rank order.
+ghost use Rattle.ranks.specs.Ranks.{OrderOf};
 
-use crate::ordered::Ordered;
+use graph::Lent;
 
-// A table with the rank order of its graph, and the list of its degrees: all that a walk goes by.
+// The table of a graph with the list of its degrees, and a slice that holds its rank order: all that a walk goes by. Document 01, "Graph and ranks".
 #[derive(Clone, Copy)]
 pub struct Ranked<'a> {
-    pub ordered: Ordered<'a>,
-    pub degrees: &'a [u16],
-    pub ghost listed: { Lists ordered.table degrees.now },
+    pub lent: Lent<'a>,
+    pub order: &'a [u16],
+    pub ghost ordered: { OrderOf lent.table.n lent.table.bytes.now order.now },
 }

@@ -11,7 +11,7 @@ use borrow.Author.Tests.{ltb-true, ltb-false}
 use Rattle.model.specs.Groups as groups
 use Rattle.model.specs.Text.{TextReply, read_text}
 use Rattle.model.specs.Program.{Words, listing, reading, by_reading, by_words, chosen, program_verdict}
-use Rattle.model.specs.Calls.{refuse_table, refuse_settings}
+use Rattle.model.specs.Calls.{refuse_table}
 use Rattle.theory.proofs.Text.EdgeTextGraph.{read_table-accepted}
 use Rattle.theory.proofs.Program.Program.{by_length, by_text, by_refusal, by_graph}
 use Rattle.graph.proofs.Faults.{table_fits}
@@ -25,7 +25,7 @@ use Rattle.dimacs.specs.declared.Refused.{Refused}
 use Rattle.dimacs.specs.Reply.{text_reply}
 use Rattle.isolation.specs.Numbers.{settings_of}
 use Rattle.isolation.specs.declared.Settings.{Settings}
-use Rattle.request.specs.declared.verdict.Listing.{Listing}
+use Rattle.request.specs.declared.listing.Listing.{Listing}
 use Rattle.request.specs.declared.words.Arguments.{Arguments}
 use Rattle.request.specs.Verdict.{Judged, Decides}
 use Rattle.request.specs.Words.{WordsRead}
@@ -73,18 +73,17 @@ module _ (s : groups.Settings) (text : List ℕ) {before : List ℕ} (zeros : be
     read_graph : listing s said.vertices (take (said.vertices * said.vertices) table) ≡ by_words (chosen s) text
     read_graph = sym (reader ∙ ap (λ (r : TextReply). by_reading r.refused s r) (sym replies) ∙ by_graph 0 s _ refl)
 
-    read_few : length table ≡ length before → said.vertices ≤ 256
+    pub read_few : length table ≡ length before → said.vertices ≤ 256
     read_few long = below_257 said.vertices (let h = read_fits in let z = long ∙ ap length zeros ∙ length-replicate {A = ℕ} 65536 0 in omega arith)
 
 -- the graph of a text that is read, to be listed with settings that pass
-pub judged_graph : (s : Settings) → refuse_settings (settings_of s) ≡ 0 → (text : List ℕ) {before table : List ℕ} → before ≡ replicate 65536 0
-    → ltb 65536 (length text) ≡ false → (said : Said) → text_reply (Ok said) table ≡ read_text text before → length table ≡ length before
-    → Judged (settings_of s) text table (Ok (record { settings = s; vertices = said.vertices }))
-judged_graph s proper text zeros short said replies long =
-    let t = settings_of s in
+pub judged_graph : (l : Listing) (text : List ℕ) {before table : List ℕ} → before ≡ replicate 65536 0 → ltb 65536 (length text) ≡ false
+    → (said : Said) → said.vertices ≡ l.vertices → text_reply (Ok said) table ≡ read_text text before → Judged (settings_of l.settings) text table (Ok l)
+judged_graph l text zeros short said same replies =
+    let s = settings_of l.settings in
     record {
-      verdict = read_graph t text zeros short said replies;
-      fine = (read_few t text zeros short said replies long, read_fits t text zeros short said replies, read_accepted t text zeros short said replies, proper);
+      verdict = rw same at (read_graph s text zeros short said replies);
+      fine = (rw same at (read_fits s text zeros short said replies), rw same at (read_accepted s text zeros short said replies));
     }
 
 -- ---- the verdict on words and text

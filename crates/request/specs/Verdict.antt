@@ -1,13 +1,12 @@
 -- What the program's verdict promises. Assumes nothing.
 use Rattle.std.specs.Prelude.{ℕ, ◌*◌, ◌≤◌, ◌≡◌, List, length, take, Result, Ok, Err}
 use Rattle.model.specs.Groups.{Settings}
-use Rattle.model.specs.Calls.{refuse_settings}
 use Rattle.model.specs.Program as program
 use Rattle.refusal.specs.Numbers.{number}
 use Rattle.graph.specs.Table.{lent_table}
 use Rattle.isolation.specs.Numbers.{settings_of}
 use Rattle.dimacs.specs.declared.Refused.{Refused}
-use Rattle.request.specs.declared.verdict.Listing.{Listing}
+use Rattle.request.specs.declared.listing.Listing.{Listing}
 use Rattle.request.specs.declared.words.Arguments.{Arguments}
 use Rattle.request.specs.Words.{Handed}
 
@@ -16,12 +15,12 @@ abbrev pub verdict_of : Result Listing Refused → List ℕ → program.Verdict
 verdict_of (Err e) t = program.refusal (number e.refusal) e.line
 verdict_of (Ok l) t = program.listing (settings_of l.settings) l.vertices (take (l.vertices * l.vertices) t)
 
--- a graph that is to be listed has at most 256 vertices, and neither its table nor the settings have a fault
+-- a graph that is to be listed lies in the table, and has no fault there
 abbrev pub Fine : Result Listing Refused → List ℕ → Type 0
 Fine (Err e) t = Unit {0}
 Fine (Ok l) t =
     let n = l.vertices in
-    (n ≤ 256) × (n * n ≤ length t) × ((lent_table n (take (n * n) t)).fault ≡ 0) × (refuse_settings (settings_of l.settings) ≡ 0)
+    (n * n ≤ length t) × ((lent_table n (take (n * n) t)).fault ≡ 0)
 
 -- a text, with settings that pass, is judged as the definition says
 pub record Judged (s : Settings) (text table : List ℕ) (r : Result Listing Refused) : Type 0 where

@@ -4,17 +4,11 @@ ghost use Rattle.model.specs.Calls.{refuse_settings};
 ghost use Rattle.isolation.specs.Numbers.{settings_of};
 ghost use Rattle.request.specs.Verdict.{Judged, Decides};
 
+pub use crate::listing::Listing;
 use crate::words::Arguments;
 use dimacs::Refused;
 use isolation::Settings;
 use refusal::Refusal;
-
-// The settings and the number of vertices of a graph to list.
-#[derive(Clone, Copy)]
-pub struct Listing {
-    pub settings: Settings,
-    pub vertices: usize,
-}
 
 // What the program does: it lists a graph, or prints a refusal and its line.
 pub type Verdict = Result<Listing, Refused>;

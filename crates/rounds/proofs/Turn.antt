@@ -13,9 +13,10 @@ use Rattle.model.specs.Below.{bit}
 use Rattle.model.specs.Walk.{Position, Rules, Page, halt, onward, finished, step, found, due, page}
 use Rattle.model.specs.Calls.{reply_of}
 use Rattle.theory.proofs.Walk.Rounds.{page-finished, page_spent, page-full, page-onward}
+use Rattle.emit.specs.declared.Full as emit
 use Rattle.rounds.specs.declared.Stop.{Stop}
 use Rattle.rounds.specs.declared.Stop.TheVariants.{Finished, Spent, Full}
-use Rattle.rounds.specs.Answer.{stop_number, PageReplies, accepted}
+use Rattle.rounds.specs.Answer.{stop_number, wanted_at, PageReplies, accepted}
 use Rattle.rounds.specs.Turn.{sofar, Turn}
 
 -- ---- what was done so far
@@ -108,47 +109,49 @@ module _ {R : Rules} {budget : ℕ} {first : Position} {lent : List ℕ} {k g u 
 
   -- ---- the breaks
 
-  -- Where the ways out of the loop meet: the stop's number, the entries wanted and the output are known by equations only.
-  ended : {x y : ℕ} → page R (budget - k) (length lent - u) p ≡ halt x y p → {stop wanted : ℕ} {last : List ℕ} → stop ≡ x → wanted ≡ y → last ≡ output
-      → PageReplies (accepted stop g k u wanted) p last (reply_of 0 (page R budget (length lent) first) first lent)
+  -- where the ways out of the loop meet
+  ended : (stop : Stop) → page R (budget - k) (length lent - u) p ≡ halt (stop_number stop) (wanted_at stop) p
+      → PageReplies (accepted (record { stop = stop; groups = g; steps = k; used = u })) p output (reply_of 0 (page R budget (length lent) first) first lent)
   unfolding reply_of
-  ended {x} {y} e a b c =
+  ended stop e =
       record {
         refusal = refl;
-        stop = a ∙ sym (ap (λ (r : Page). r.stop) all);
+        stop = sym (ap (λ (r : Page). r.stop) all);
         groups = sym (ap (λ (r : Page). r.groups) all);
         steps = sym (ap (λ (r : Page). r.steps) all);
         used = t.used-is ∙ sym (ap (λ (r : Page). length r.written) all);
-        wanted = b ∙ sym (ap (λ (r : Page). r.wanted) all);
+        wanted = sym (ap (λ (r : Page). r.wanted) all);
         position = sym (ap (λ (r : Page). r.reached) all);
         output =
-            c
-            ∙ t.output-is
+            t.output-is
             ∙ ap (λ (m : ℕ). t.written ++ drop m lent) t.used-is
             ∙ sym (ap (λ (r : Page). r.written ++ drop (length r.written) lent) all);
       }
     where
-      all : page R budget (length lent) first ≡ record { stop = x; groups = g; steps = k; wanted = y; reached = p; written = t.written }
-      all = t.whole ∙ ap (sofar k g t.written) e ∙ sofar-halt k g t.written x y p
+      all : page R budget (length lent) first
+          ≡ record { stop = stop_number stop; groups = g; steps = k; wanted = wanted_at stop; reached = p; written = t.written }
+      all = t.whole ∙ ap (sofar k g t.written) e ∙ sofar-halt k g t.written (stop_number stop) (wanted_at stop) p
 
-  module _ {s : Stop} {stop wanted : ℕ} {last : List ℕ} (number : stop ≡ stop_number s) where
-    -- point 1: the position is finished
-    pub turn_finished : s ≡ Finished → wanted ≡ 0 → last ≡ output → finished p ≡ true
-        → PageReplies (accepted stop g k u wanted) p last (reply_of 0 (page R budget (length lent) first) first lent)
-    turn_finished e f o h = ended (page-finished R p (budget - k) (length lent - u) h) (number ∙ ap stop_number e) f o
+  -- point 1: the position is finished
+  pub turn_finished : finished p ≡ true
+      → PageReplies (accepted (record { stop = Finished; groups = g; steps = k; used = u })) p output (reply_of 0 (page R budget (length lent) first) first lent)
+  turn_finished h = ended Finished (page-finished R p (budget - k) (length lent - u) h)
 
-    module _ (walking : finished p ≡ false) where
-      -- point 2: the steps made equal the budget
-      pub turn_spent : s ≡ Spent → wanted ≡ 0 → last ≡ output → k ≡ budget
-          → PageReplies (accepted stop g k u wanted) p last (reply_of 0 (page R budget (length lent) first) first lent)
-      turn_spent e f o h =
-          let n : budget - k ≡ 0 = omega arith in
-          ended (ap (λ (b : ℕ). page R b (length lent - u) p) n ∙ page_spent R p walking (length lent - u)) (number ∙ ap stop_number e) f o
+  module _ (walking : finished p ≡ false) where
+    -- point 2: the steps made equal the budget
+    pub turn_spent : k ≡ budget
+        → PageReplies (accepted (record { stop = Spent; groups = g; steps = k; used = u })) p output (reply_of 0 (page R budget (length lent) first) first lent)
+    turn_spent e =
+        let n : budget - k ≡ 0 = omega arith in
+        ended Spent (ap (λ (b : ℕ). page R b (length lent - u) p) n ∙ page_spent R p walking (length lent - u))
 
-      -- point 3: what is due exceeds the unused entries
-      pub turn_full : s ≡ Full → wanted ≡ length (due R p) → last ≡ output → k < budget → length lent < u + length (due R p)
-          → PageReplies (accepted stop g k u wanted) p last (reply_of 0 (page R budget (length lent) first) first lent)
-      turn_full e f o more full =
-          let n : budget - k ≡ suc (budget - (k + 1)) = omega arith in
-          let h = t.used-fits in
-          ended (ap (λ (b : ℕ). page R b (length lent - u) p) n ∙ page-full R p walking (budget - (k + 1)) (length lent - u) (omega arith)) (number ∙ ap stop_number e) f o
+    -- point 3: what is due exceeds the unused entries
+    pub turn_full : (full : emit.Full) → full.wanted ≡ length (due R p) → k < budget → length lent < u + length (due R p)
+        → PageReplies (accepted (record { stop = Full full; groups = g; steps = k; used = u })) p output (reply_of 0 (page R budget (length lent) first) first lent)
+    turn_full full f more exceeds =
+        let n : budget - k ≡ suc (budget - (k + 1)) = omega arith in
+        let h = t.used-fits in
+        ended (Full full)
+        (ap (λ (b : ℕ). page R b (length lent - u) p) n
+        ∙ page-full R p walking (budget - (k + 1)) (length lent - u) (omega arith)
+        ∙ ap (λ (m : ℕ). halt (stop_number (Full full)) m p) (sym f))

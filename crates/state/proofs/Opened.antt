@@ -13,13 +13,13 @@ use Rattle.model.specs.Graph.{Graph}
 use Rattle.model.specs.Walk.{Position, fresh}
 use Rattle.model.specs.Listing.{is, taken_list}
 use Rattle.model.specs.Calls.{over, gap, reopened}
-use Rattle.theory.proofs.Basics.Tests.{last_or_below, lt_or_ge, trichotomy}
+use Rattle.theory.proofs.Basics.Tests.{lt_or_ge, trichotomy}
 use Rattle.theory.proofs.Basics.Passing.{no_entries}
 use Rattle.theory.proofs.Walk.Scans.{least_le, decided-below, open_from}
 use Rattle.theory.proofs.Walk.Remaining.{open_zero, fresh_open}
 use Rattle.theory.proofs.Calls.Fault.{over_test}
 use Rattle.state.specs.State.{taken_ranks, degrees_of, Stands}
-use Rattle.state.specs.NextRank.{Decides, RanksOpened}
+use Rattle.state.specs.NextRank.{Decides}
 use Rattle.state.specs.declared.State.{State}
 use Rattle.state.proofs.Taken.{apart_none, degrees-none, taken-length, taken_at, left-none}
 

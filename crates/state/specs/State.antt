@@ -6,8 +6,8 @@ use Rattle.model.specs.Graph.{Graph, degree}
 use Rattle.theory.specs.Parts.{part, taken_ranks_at, members_at, left_ranks_at}
 use Rattle.model.specs.Walk.{Position, has, finished}
 use Rattle.model.specs.Listing.{is, adjacent, pivot, apart, taken_list, rules}
-use Rattle.isolation.specs.declared.Settings.{Settings}
-use Rattle.isolation.specs.Numbers.{settings_of}
+use Rattle.isolation.specs.declared.criterion.Criterion.{Criterion}
+use Rattle.isolation.specs.Numbers.{settings_in}
 use Rattle.state.specs.declared.State.{State}
 
 -- the taken ranks, lowest first
@@ -57,10 +57,14 @@ pub record Copied (k : ℕ) (from before after : List ℕ) : Type 0 where
 abbrev pub StandsForOne : Graph → List ℕ → State → Type 0
 StandsForOne G w s = (p : Position) × Stands G p w s
 
+-- and a rank of it is open, so that a next rank can be decided
+abbrev pub StandsOpen : Graph → List ℕ → State → Type 0
+StandsOpen G w s = StandsForOne G w s × (s.decided < G.size)
+
 -- what `finished` says of every position for which the state stands
 abbrev pub SaysFinished : ℕ → State → Bool → Type 0
 SaysFinished n s b = (G : Graph) (p : Position) (w : List ℕ) → G.size ≡ n → Stands G p w s → b ≡ finished p
 
 -- what `is_dead` says of every position for which the state stands: whether the rules of the settings have it dead
-abbrev pub SaysDead : Settings → State → Bool → Type 0
-SaysDead q s b = (G : Graph) (p : Position) (w : List ℕ) → Stands G p w s → b ≡ (rules G (settings_of q)).dead p
+abbrev pub SaysDead : Criterion → State → Bool → Type 0
+SaysDead q s b = (G : Graph) (p : Position) (w : List ℕ) → Stands G p w s → b ≡ (rules G (settings_in q)).dead p

@@ -2,25 +2,23 @@
 // rank that is decided, and at nothing else of the position.
 #![tactic(auto)]
 
+pub mod marks;
+
 ghost use Rattle.std.specs.Prelude.{◌≡◌, false, not, ◌+◌, ◌-◌, ◌*◌, ◌≤◌, ◌<◌, length, get_or};
-ghost use Rattle.std.specs.List.{All};
 ghost use Rattle.model.specs.Below.{any, least};
 ghost use Rattle.model.specs.Listing.{is};
 ghost use Rattle.model.specs.Calls.{over, gap, reopened};
 ghost use Rattle.graph.specs.Held.{graph_in};
-ghost use Rattle.ranks.specs.Held.{ordered_graph, ranked_graph};
-ghost use Rattle.isolation.specs.Numbers.{FactorFits};
-ghost use Rattle.state.specs.State.{Stands, StandsForOne, SaysFinished, SaysDead, fresh};
+ghost use Rattle.graph.specs.Vertices.{VerticesOf};
+ghost use Rattle.ranks.specs.Ranks.{OrderOf};
+ghost use Rattle.ranks.specs.Held.{ranked_graph};
+ghost use Rattle.state.specs.State.{Stands, StandsOpen, SaysFinished, SaysDead, fresh};
 ghost use Rattle.state.specs.NextRank.{Pushed, LeftOnceTaken};
 
+use crate::marks::{OPEN, TAKEN};
 use graph::Table;
-use isolation::Settings;
-use ranks::{Ordered, Ranked};
-
-// The bytes of a position, document 01, "The walk": an open rank, and a taken one.
-const OPEN: u8 = 0;
-
-const TAKEN: u8 = 1;
+use isolation::Criterion;
+use ranks::{Ranked, vertex_at};
 
 // What a page keeps beside the position and the work slice: how many ranks are decided, how many of them are taken, how many neighbours of the
 // pivot are left, the sum of the taken vertices' degrees, and whether two taken ranks are not adjacent.
@@ -33,15 +31,14 @@ pub struct State {
     pub apart: bool,
 }
 
-// Whether some of the vertices is not joined to v. Reads them from the last, up to one that is not.
+// Whether some of the vertices is not joined to v. Reads them up to the first that is not.
 fn misses_one(table: &Table, vertices: &[u16], v: usize) -> bool
-    requires { All (λ u. u < table.now.n) vertices.now × (v < table.now.n) }
+    requires vertex { v < table.now.n }
+    requires vertices { VerticesOf table.now.n vertices.now }
     ensures { result ≡ any (length vertices.now) (λ j. not ((graph_in table.now).joined (get_or vertices.now j 0) v)) }
 {
-    let k = vertices.len();
-    for i in 0..k {
-        let u = usize::from(vertices[k - 1 - i]);
-        if !table.joined(u, v) {
+    for u in vertices {
+        if !table.joined(usize::from(*u), v) {
             return true;
         }
     }
@@ -71,9 +68,8 @@ impl State {
 
     // Whether the position is dead. Document 01, "The walk": two taken ranks are not adjacent, or something is taken and at least c neighbours of the
     // pivot are left. The pivot has the least outside count of a clique, so then no notion of document 002, section 2.1, can hold. Reads the factor of
-    // the settings.
-    pub fn is_dead(self, q: Settings) -> bool
-        requires { FactorFits q }
+    // the criterion.
+    pub fn is_dead(self, q: Criterion) -> bool
         ensures { SaysDead q self result }
     {
         if self.apart {
@@ -88,20 +84,20 @@ impl State {
     // How many neighbours of the pivot are left once the next rank, d, is taken; part 2 of work then holds them, lowest first. Document 01, "Graph and
     // ranks", after documents 000, section 2, and 002, section 2.2: the pivot is the member of lowest rank, one of least degree. So it stays where
     // something is taken. Else it is d, and the ranks below d, which are all left, are looked through once.
-    fn left_once_taken(self, g: &Ordered, work: &mut [u16]) -> usize
-        requires { StandsForOne (ordered_graph g.now) work.old self × (self.decided < g.now.table.n) }
-        ensures { LeftOnceTaken (ordered_graph g.now) work.old self work.new result }
+    fn left_once_taken(self, g: &Ranked, work: &mut [u16]) -> usize
+        requires { StandsOpen (ranked_graph g.now) work.old self }
+        ensures { LeftOnceTaken (ranked_graph g.now) work.old self work.new result }
     {
         if 0 < self.taken {
             return self.left;
         }
         let d = self.decided;
         let v = g.vertex_at(d);
-        let start = 2 * g.table.n;
+        let start = 2 * g.lent.table.n;
         let mut m: usize = 0;
         for i in 0..d {
             let u = g.vertex_at(i);
-            if g.table.joined(v, u) {
+            if g.lent.table.joined(v, u) {
                 work[start + m] = i as u16;
                 m += 1;
             }
@@ -111,17 +107,18 @@ impl State {
 
     // The state with the next rank taken: its vertex is tested against the taken ones. Does not touch the position.
     pub fn push_taken(self, g: &Ranked, work: &mut [u16]) -> State
-        requires { StandsForOne (ranked_graph g.now) work.old self × (self.decided < g.now.ordered.table.n) }
+        requires { StandsOpen (ranked_graph g.now) work.old self }
         ensures { Pushed (ranked_graph g.now) 1 work.old self work.new result }
     {
-        let n = g.ordered.table.n;
+        let n = g.lent.table.n;
         let d = self.decided;
         let k = self.taken;
-        let v = g.ordered.vertex_at(d);
-        let degree = g.degree(v);
+        let v = g.vertex_at(d);
+        let degree = g.lent.degree(v);
         let end = n + k;
-        let apart = self.apart | misses_one(&g.ordered.table, &work[n..end], v);
-        let left = self.left_once_taken(&g.ordered, work);
+        // `|`, and no branch: a step takes no rank where two that are taken are apart already.
+        let apart = self.apart | misses_one(&g.lent.table, &work[n..end], v);
+        let left = self.left_once_taken(g, work);
         work[k] = d as u16;
         work[end] = v as u16;
         State {
@@ -133,12 +130,12 @@ impl State {
         }
     }
 
-    // The state with the next rank left: a neighbour of the pivot goes onto part 2. Does not touch the position.
-    pub fn push_left(self, g: &Ordered, work: &mut [u16]) -> State
-        requires { StandsForOne (ordered_graph g.now) work.old self × (self.decided < g.now.table.n) }
-        ensures { Pushed (ordered_graph g.now) 2 work.old self work.new result }
+    // The state with the next rank left: a neighbour of the pivot goes onto part 2. Reads the table and the slice of its rank order. Does not touch the position.
+    pub fn push_left(self, table: &Table, order: &[u16], work: &mut [u16]) -> State
+        requires { OrderOf table.now.n table.now.bytes.now order.now × StandsOpen (graph_in table.now) work.old self }
+        ensures { Pushed (graph_in table.now) 2 work.old self work.new result }
     {
-        let n = g.table.n;
+        let n = table.n;
         let d = self.decided;
         let m = self.left;
         let passed = State {
@@ -149,8 +146,8 @@ impl State {
             return passed;
         }
         let p = usize::from(work[n]);
-        let v = g.vertex_at(d);
-        if g.table.joined(p, v) {
+        let v = vertex_at(order, n, d);
+        if table.joined(p, v) {
             work[2 * n + m] = d as u16;
             return State {
                 left: m + 1,
@@ -162,24 +159,24 @@ impl State {
 
     // The state with the next rank decided as the mark says. Document 01, "The walk": 1 is taken and 2 is left.
     fn push(self, mark: u8, g: &Ranked, work: &mut [u16]) -> State
-        requires { StandsForOne (ranked_graph g.now) work.old self × (self.decided < g.now.ordered.table.n) × (0 < mark) × (mark ≤ 2) }
+        requires { StandsOpen (ranked_graph g.now) work.old self × (0 < mark) × (mark ≤ 2) }
         ensures { Pushed (ranked_graph g.now) mark work.old self work.new result }
     {
         if mark == TAKEN {
             return self.push_taken(g, work);
         }
-        self.push_left(&g.ordered, work)
+        self.push_left(&g.lent.table, g.order, work)
     }
 
     // The state of a position that passes refusals 21 and 22, with its last decided rank opened; `upto` is that rank, and 0 where all are open. Goes once
     // through the ranks below it, and writes the work slice alone.
     pub fn rebuild(g: &Ranked, position: &[u8], upto: usize, work: &mut [u16]) -> State
-        requires { (length position.now ≡ g.now.ordered.table.n) × (8 * g.now.ordered.table.n ≤ length work.old) × (over 2 position.now ≡ false) × (gap position.now ≡ false) × (upto ≡ least (length position.now) (is 0 position.now) - 1) }
+        requires { (length position.now ≡ g.now.lent.table.n) × (8 * g.now.lent.table.n ≤ length work.old) × (over 2 position.now ≡ false) × (gap position.now ≡ false) × (upto ≡ least (length position.now) (is 0 position.now) - 1) }
         ensures { Stands (ranked_graph g.now) (reopened position.now) work.new result }
     {
         let mut s = State::fresh();
-        for d in 0..upto {
-            s = s.push(position[d], g, work);
+        for mark in &position[..upto] {
+            s = s.push(*mark, g, work);
         }
         s
     }
@@ -187,10 +184,10 @@ impl State {
     // The state of a position, from the state that stands for it with its last decided rank opened: its three parts go from `memory` into the work slice,
     // and that rank, which comes next, is decided as the position has it. A fresh position has none.
     pub fn go_on(self, g: &Ranked, position: &[u8], memory: &[u16], work: &mut [u16]) -> State
-        requires { Stands (ranked_graph g.now) (reopened position.now) memory.now self × (8 * g.now.ordered.table.n ≤ length work.old) × (over 2 position.now ≡ false) }
+        requires { Stands (ranked_graph g.now) (reopened position.now) memory.now self × (8 * g.now.lent.table.n ≤ length work.old) × (over 2 position.now ≡ false) }
         ensures { Stands (ranked_graph g.now) position.now work.new result }
     {
-        let n = g.ordered.table.n;
+        let n = g.lent.table.n;
         let d = self.decided;
         let end = 3 * n;
         work[..end].copy_from_slice(&memory[..end]);

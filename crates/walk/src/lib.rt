@@ -7,24 +7,18 @@ ghost use Rattle.model.specs.Walk.{finished, advance, retreat};
 ghost use Rattle.model.specs.Listing.{apart};
 ghost use Rattle.model.specs.Calls.{reopened};
 ghost use Rattle.ranks.specs.Held.{ranked_graph};
-ghost use Rattle.isolation.specs.Numbers.{settings_of, FactorFits};
+ghost use Rattle.isolation.specs.Numbers.{settings_in};
 ghost use Rattle.state.specs.State.{Stands};
 ghost use Rattle.walk.specs.Walk.{Trimmed, Moved, Walking, Stepped};
 
-use isolation::Settings;
+use isolation::Criterion;
 use ranks::Ranked;
 use state::State;
-
-// The bytes of a position, document 01, "The walk".
-const OPEN: u8 = 0;
-
-const TAKEN: u8 = 1;
-
-const LEFT: u8 = 2;
+use state::marks::{LEFT, OPEN, TAKEN};
 
 // Document 01, "The walk": the lowest open rank becomes taken.
 pub fn take(s: State, g: &Ranked, position: &mut [u8], work: &mut [u16]) -> State
-    requires { Stands (ranked_graph g.now) position.old work.old s × (s.decided < g.now.ordered.table.n) }
+    requires { Stands (ranked_graph g.now) position.old work.old s × (s.decided < g.now.lent.table.n) }
     ensures { Moved (ranked_graph g.now) (advance position.old) position.new work.new result }
 {
     let d = s.decided;
@@ -40,14 +34,10 @@ fn trim(ranks: &[u16], k: usize, r: usize) -> usize
     if k == 0 {
         return 0;
     }
-    let m = ranks.len();
-    for i in 0..m {
-        let kept = m - i;
-        if usize::from(ranks[kept - 1]) < r {
-            return kept;
-        }
-    }
-    0
+    ranks
+        .iter()
+        .rposition(|rank| usize::from(*rank) < r)
+        .map_or(0, |last| last + 1)
 }
 
 // Document 01, "The walk": the highest taken rank becomes left and all ranks after it become open. The taken ranks before it are pairwise adjacent,
@@ -56,12 +46,12 @@ pub fn back(s: State, g: &Ranked, position: &mut [u8], work: &mut [u16]) -> Stat
     requires { Stands (ranked_graph g.now) position.old work.old s × (0 < s.taken) × (apart (ranked_graph g.now) (reopened position.old) ≡ false) }
     ensures { Moved (ranked_graph g.now) (retreat position.old) position.new work.new result }
 {
-    let n = g.ordered.table.n;
+    let n = g.lent.table.n;
     let d = s.decided;
     let k = s.taken - 1;
     let r = usize::from(work[k]);
     let last = usize::from(work[n + k]);
-    let last_degree = g.degree(last);
+    let last_degree = g.lent.degree(last);
     let start = 2 * n;
     let end = start + s.left;
     let left = trim(&work[start..end], k, r);
@@ -75,21 +65,20 @@ pub fn back(s: State, g: &Ranked, position: &mut [u8], work: &mut [u16]) -> Stat
     let next = r + 1;
     position[r] = LEFT;
     position[next..d].fill(OPEN);
-    rest.push_left(&g.ordered, work)
+    rest.push_left(&g.lent.table, g.order, work)
 }
 
 // One step from a position that is not finished. Document 01, "The walk": live with an open rank, the lowest open rank is taken; otherwise the
 // highest taken rank is left.
-pub fn step(s: State, g: &Ranked, q: Settings, position: &mut [u8], work: &mut [u16]) -> State
-    requires walking { Walking (ranked_graph g.now) (settings_of q) position.old work.old s }
-    requires factor_fits { FactorFits q }
+pub fn step(s: State, g: &Ranked, q: Criterion, position: &mut [u8], work: &mut [u16]) -> State
+    requires walking { Walking (ranked_graph g.now) (settings_in q) position.old work.old s }
     requires unfinished { finished position.old ≡ false }
-    ensures { Stepped (ranked_graph g.now) (settings_of q) position.old position.new work.new result }
+    ensures { Stepped (ranked_graph g.now) (settings_in q) position.old position.new work.new result }
 {
     if s.is_dead(q) {
         return back(s, g, position, work);
     }
-    if s.decided < g.ordered.table.n {
+    if s.decided < g.lent.table.n {
         return take(s, g, position, work);
     }
     back(s, g, position, work)

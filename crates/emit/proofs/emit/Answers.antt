@@ -20,7 +20,7 @@ returns-then-not-qualifies c =
 pub record_length-entries-requires : goal.record_length-entries-requires
 record_length-entries-requires c =
     let k = taken-few c.requires.0 in
-    let m = c.args.g.now.ordered.table.fits.small in
+    let m = c.args.g.now.lent.table.fits.small in
     omega arith
 
 pub returns-then-output-used : goal.returns-then-output-used
@@ -31,20 +31,20 @@ returns-then-output-used c =
 
 -- the taken vertices as they are lent to the group writer
 module _ (c : Else-output-used) where
-  part-is : c.args.g.now.ordered.table.n + c.args.s.taken - c.args.g.now.ordered.table.n ≡ c.args.s.taken
+  part-is : c.args.g.now.lent.table.n + c.args.s.taken - c.args.g.now.lent.table.n ≡ c.args.s.taken
   part-is = omega arith
 
-  part-long : length (part c.qualifies.new.work c.args.g.now.ordered.table.n c.args.s.taken) ≡ c.args.s.taken
+  part-long : length (part c.qualifies.new.work c.args.g.now.lent.table.n c.args.s.taken) ≡ c.args.s.taken
   part-long =
       let k = taken-few c.requires.0 in
       let r = c.requires.0.stands.1.room in
       let l = c.qualifies.ensures.length-kept in
-      part_length c.qualifies.new.work c.args.g.now.ordered.table.n c.args.s.taken (omega arith)
+      part_length c.qualifies.new.work c.args.g.now.lent.table.n c.args.s.taken (omega arith)
 
 pub put_group-requires : goal.put_group-requires
 put_group-requires c =
     let k = taken-few c.requires.0 in
-    let m = c.args.g.now.ordered.table.fits.small in
+    let m = c.args.g.now.lent.table.fits.small in
     simp length-take (omega (arith, c.if-output-used.false, c.record_length-entries.ensures), omega arith)
 
 pub returns : goal.returns

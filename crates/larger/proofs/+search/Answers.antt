@@ -5,7 +5,7 @@ use Rattle.model.specs.Graph.{degree}
 use Rattle.graph.specs.Held.{graph_in}
 use Rattle.isolation.specs.declared.Tally.{Tally}
 use Rattle.isolation.specs.Numbers.{with_member}
-use Rattle.larger.proofs.Joined.{part-vertices}
+use Rattle.graph.proofs.Vertices.{part-vertices}
 use Rattle.larger.proofs.Searching.{at_end, at_hopeless, at_apart, Adds, at_here, at_deeper, at_next, added-vertex-at, parts-next, room_next}
 use Rattle.larger.proofs.+search.Goals as goal
 use Rattle.larger.proofs.+search.Goals.{After-joined_to_all, then-joined_to_all+else-isolates+else-search, else-joined_to_all}

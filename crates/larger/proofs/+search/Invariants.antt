@@ -10,4 +10,4 @@ abbrev pub decreases-search : goal.decreases-search
 decreases-search l = l.m - l.i
 
 abbrev pub invariant-loop-j : goal.invariant-loop-j
-invariant-loop-j l = At (graph_in l.lent.table) l.initial.work l.s l.y l.base l.i l.m l.work l.j
+invariant-loop-j l = At (graph_in l.lent.table) l.initial.work l.q l.y l.base l.i l.m l.work l.j

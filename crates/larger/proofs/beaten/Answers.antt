@@ -7,10 +7,10 @@ use Rattle.larger.proofs.beaten.Goals.{then-eq-via-then-eq, then-eq-via-else-eq+
 
 pub returns-then-eq : goal.returns-then-eq
 returns-then-eq c =
-    let kind = kind-test c.args.s.kind (rw c.kind.ensures at c.eq.ensures) in
+    let kind = kind-test c.args.q.kind c.eq.ensures in
     elim c.then-eq.branch [
       | then-eq-via-then-eq w ↦ by_kind c.args.lent.now.table.fits.small c.requires.parts c.requires.posed (kind.0 w.if-eq.true) refl
-      | then-eq-via-else-eq+then-eq-2 w ↦ by_min c.args.lent.now.table.fits.small c.requires.parts c.requires.posed (kind.1 w.if-eq.false) ((notion-test c.args.s.notion (rw w.notion.ensures at w.eq-else-eq.ensures)).0 w.if-eq-2.true) refl
+      | then-eq-via-else-eq+then-eq-2 w ↦ by_min c.args.lent.now.table.fits.small c.requires.parts c.requires.posed ((notion-test c.args.q.notion w.eq-else-eq.ensures).0 w.if-eq-2.true) refl
     ]
 
 pub search-requires-clause-state : goal.search-requires-clause-state
@@ -19,5 +19,5 @@ search-requires-clause-state c = posed_room c.args.lent.now.table.fits.small c.r
 pub returns : goal.returns
 returns c =
     by_search c.args.lent.now.table.fits.small c.requires.parts c.requires.posed
-    ((kind-test c.args.s.kind (rw c.kind.ensures at c.eq.ensures)).1 c.if-eq.false)
-    ((notion-test c.args.s.notion (rw c.notion.ensures at c.eq-else-eq.ensures)).1 c.if-eq-2.false) c.search.ensures
+    ((kind-test c.args.q.kind c.eq.ensures).1 c.if-eq.false)
+    ((notion-test c.args.q.notion c.eq-else-eq.ensures).1 c.if-eq-2.false) c.search.ensures

@@ -1,9 +1,11 @@
 -- `marked::search` and `marked::search_with` meet their contracts: at each candidate the search says of those from it on what it says of all, and with a
 -- candidate added a return undoes what adding it did.
 -- Assumes nothing.
-use Rattle.std.proofs.Common.{ℕ, sym, ◌∙◌, arith}
+use Rattle.std.proofs.Common.{ℕ, ◌-◌, sym, ◌∙◌, ◌++◌, arith}
+use borrow.Rule.Slice.PartMut.{put_mid}
+use Rattle.marked.proofs.Marking.{marks_dropped}
 use Rattle.graph.specs.Held.{graph_in}
-use Rattle.marked.proofs.Adding.{Asked, left-few, depth_is, sum_with, with_found, with_given_up, Below, parts-below, room-below, below-found, below_none}
+use Rattle.marked.proofs.Adding.{Asked, lent-vertices, left-few, depth_is, sum_with, with_found, with_given_up, Below, parts-below, room-below, below-found, below_none}
 use Rattle.marked.proofs.Searching.{still-few, at_end, at_out, one_in, at_hopeless, Tries, parts_with, room_with, at_found, at_next}
 use Rattle.marked.proofs.+search.Goals as goal
 use Rattle.marked.proofs.+search.Goals.{search-After-from-v, search-then-work-n-eq0+else-hopeless+else-search_with, search-else-work-n-eq0, search_with-After-degree-d, search_with-After-drop_out-kept}
@@ -13,7 +15,7 @@ use Rattle.marked.proofs.+search.Goals.{search-After-from-v, search-then-work-n-
 pub search-hopeless-requires : goal.search-hopeless-requires
 search-hopeless-requires t c =
     let at = c.loop-j.invariant in (
-      record { factor = at.room.factor; members = omega (arith, at.small, at.room.room, at.from, still-few at) },
+      omega (arith, at.small, at.room.room, at.from, still-few at),
       omega (arith, at.small, at.room.room, at.room.sum),
       at.room.low_small,
     )
@@ -57,7 +59,7 @@ search-returns t c = at_end c.loop-j.invariant c.loop-j-test.false
 -- ---- with a candidate added
 
 -- what it begins with
-asked : (t : ℕ) (c : search_with-After-degree-d t) → let a = c.args in Asked (graph_in a.lent.now.table) a.work.now a.s a.y a.low a.v a.i a.m a.left
+asked : (t : ℕ) (c : search_with-After-degree-d t) → let a = c.args in Asked (graph_in a.lent.now.table) a.work.now a.q a.y a.low a.v a.i a.m a.left
 asked t c = record { small = c.args.lent.now.table.fits.small; parts = c.requires.parts; room = c.requires.state }
 
 pub search_with-returns-then-isolates : goal.search_with-returns-then-isolates
@@ -69,7 +71,7 @@ search_with-hopeless-requires t c =
     let a = asked t (goal.at.search_with-hopeless-requires t c).After-degree-d in
     let depth = depth_is a c.degree-d.ensures c.with_member-z.ensures in
     let sum = sum_with a c.degree-d.ensures c.with_member-z.ensures in (
-      record { factor = a.room.state.factor; members = omega (arith, a.small, a.room.more, depth, left-few a) },
+      omega (arith, a.small, a.room.more, depth, left-few a),
       omega (arith, a.small, a.room.more, depth, sum),
       a.room.state.low_small,
     )
@@ -79,14 +81,21 @@ search_with-returns-then-hopeless t c =
     with_given_up (asked t (goal.at.search_with-returns-then-hopeless t c).After-degree-d) c.degree-d.ensures c.with_member-z.ensures
     (sym c.isolates.ensures ∙ c.if-isolates.false) (sym c.hopeless.ensures ∙ c.if-hopeless.true)
 
+pub search_with-drop_out-kept-requires-clause-vertices : goal.search_with-drop_out-kept-requires-clause-vertices
+search_with-drop_out-kept-requires-clause-vertices t c =
+    lent-vertices (asked t (goal.at.search_with-drop_out-kept-requires-clause-vertices t c).After-degree-d) c.split_at_mut-front.ensures.front
+
 -- where those not joined to the candidate have dropped out it is added
 below : (t : ℕ) (c : search_with-After-drop_out-kept t)
-    → Below (asked t (goal.at.search_with-After-drop_out-kept t c).After-degree-d) c.degree-d.ensures c.with_member-z.ensures c.drop_out-kept.new.work c.drop_out-kept.result
+    → Below (asked t (goal.at.search_with-After-drop_out-kept t c).After-degree-d) c.degree-d.ensures c.with_member-z.ensures
+    (c.split_at_mut-front.result.0.now ++ put_mid c.args.i (c.args.m - c.args.i) c.split_at_mut-front.result.1.now c.drop_out-kept.new.marks) c.drop_out-kept.result
 below t c =
     record {
       apart = sym c.isolates.ensures ∙ c.if-isolates.false;
       hope = sym c.hopeless.ensures ∙ c.if-hopeless.false;
-      drops = c.drop_out-kept.ensures;
+      drops =
+          marks_dropped _ _ _ _ c.requires.state.state.order c.requires.state.state.few c.requires.parts c.split_at_mut-front.ensures.front c.split_at_mut-front.ensures.back
+          c.drop_out-kept.new.marks c.drop_out-kept.auto.marks c.drop_out-kept.ensures;
     }
 
 pub search_with-search-requires : goal.search_with-search-requires
@@ -100,4 +109,4 @@ search_with-returns-then-search t c =
 
 pub search_with-returns : goal.search_with-returns
 search_with-returns t c =
-    below_none _ _ _ (below t (goal.at.search_with-returns t c).After-drop_out-kept) c.search.ensures c.if-search.false c.bring_back.ensures
+    below_none _ _ _ (below t (goal.at.search_with-returns t c).After-drop_out-kept) c.search.ensures c.if-search.false _ c.bring_back.auto.marks c.bring_back.ensures

@@ -14,4 +14,4 @@ abbrev pub decreases-search_with : goal.decreases-search_with
 decreases-search_with l = (l.m - l.i) + (l.m - l.i) + 1
 
 abbrev pub invariant-search-loop-j : goal.invariant-search-loop-j
-invariant-search-loop-j l = At (graph_in l.lent.table) l.initial.work l.s l.y l.low l.i l.m l.left l.work l.still l.j
+invariant-search-loop-j l = At (graph_in l.lent.table) l.initial.work l.q l.y l.low l.i l.m l.left l.work l.still l.j

@@ -6,20 +6,19 @@ use Rattle.marked.proofs.Marks.{bit_most}
 use Rattle.marked.proofs.Marking.{marking_start, marking_more, marking_dropped, drop_read, count_none, count-more}
 use Rattle.marked.proofs.drop_out.Goals as goal
 
-pub loop-j-init : goal.loop-j-init
-loop-j-init c = (omega arith, count_none _ _, marking_start)
+pub loop-e-init : goal.loop-e-init
+loop-e-init c = (omega arith, count_none _, marking_start)
 
-pub loop-j-preserved : goal.loop-j-preserved
-loop-j-preserved c =
-    let l = c.loop-j in
-    let p = c.requires in
-    let counted : c.from-left.result ≡ bit (eqb c.dropped-after.result 0) = c.from-left.ensures in
-    let most : c.from-left.result ≤ 1 = rw counted (bit_most (eqb c.dropped-after.result 0)) in
-    let mark = drop_read _ _ _ l.invariant.2 (omega (arith, p.marks-fit.few)) c.from-u.ensures c.joined-joined.ensures c.dropped-after.ensures in (
+pub loop-e-preserved : goal.loop-e-preserved
+loop-e-preserved c =
+    let l = c.loop-e in
+    let counted : c.from-left.result ≡ bit (eqb c.dropped.result 0) = c.from-left.ensures in
+    let most : c.from-left.result ≤ 1 = rw counted (bit_most (eqb c.dropped.result 0)) in
+    let mark = drop_read _ _ _ _ _ l.e c.from.ensures c.joined-joined.ensures (l.invariant.2.ahead l.e (omega arith)) c.dropped.ensures in (
       omega arith,
-      ap (λ (x : ℕ). l.left + x) counted ∙ count-more _ _ _ l.invariant.2.from l.invariant.1 mark,
-      marking_more l.invariant.2 (omega (arith, p.marks-fit.parts, p.marks-fit.few)) mark,
+      ap (λ (x : ℕ). l.left + x) counted ∙ count-more _ l.e l.invariant.1 mark,
+      marking_more l.invariant.2 (omega (arith, c.loop-e-test.true, l.auto.marks)) mark,
     )
 
 pub returns : goal.returns
-returns c = marking_dropped _ _ _ c.loop-j.invariant.2 c.loop-j.invariant.1 (let o = c.requires.marks-fit.order in omega arith)
+returns c = marking_dropped _ c.loop-e.invariant.2 c.loop-e.invariant.1 (omega (arith, c.loop-e-test.false, c.loop-e.auto.e-end))

@@ -5,7 +5,7 @@ use Rattle.model.specs.Graph.{degree}
 use Rattle.graph.specs.Held.{graph_in}
 use Rattle.isolation.specs.declared.Tally.{Tally}
 use Rattle.isolation.specs.Numbers.{with_member}
-use Rattle.larger.proofs.Joined.{part-vertices}
+use Rattle.graph.proofs.Vertices.{part-vertices}
 use Rattle.marked.proofs.Way.{Adds, down_end, down_hopeless, down_apart, down_here, down_more}
 use Rattle.marked.proofs.first_way.Goals as goal
 use Rattle.marked.proofs.first_way.Goals.{After-joined_to_all, then-joined_to_all+else-isolates, else-joined_to_all}

@@ -5,4 +5,4 @@ use Rattle.marked.proofs.Way.{Down}
 use Rattle.marked.proofs.first_way.Given as goal
 
 abbrev pub invariant-loop-j : goal.invariant-loop-j
-invariant-loop-j l = Down (graph_in l.lent.table) l.initial.work l.s l.fn.y l.m l.work l.z l.end l.j
+invariant-loop-j l = Down (graph_in l.lent.table) l.initial.work l.q l.fn.y l.m l.work l.z l.end l.j

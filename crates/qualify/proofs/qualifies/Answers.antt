@@ -4,8 +4,8 @@ use mathlib.Core.Path.{sym, ◌∙◌}
 use Rattle.qualify.proofs.Verdicts.{judged_open, judged_untaken, judged_apart, judged_exposed, judged_by, tally-fits, sifts, parts, posed}
 use Rattle.qualify.proofs.qualifies.Goals as goal
 
-pub returns-then-s-all : goal.returns-then-s-all
-returns-then-s-all c = judged_open c.requires c.if-s-all.true
+pub returns-then-s-n : goal.returns-then-s-n
+returns-then-s-n c = judged_open c.requires c.if-s-n.true
 
 pub returns-then-s-eq0 : goal.returns-then-s-eq0
 returns-then-s-eq0 c = judged_untaken c.requires c.if-s-eq0.true
@@ -15,28 +15,26 @@ returns-then-s c = judged_apart c.requires c.if-s.true
 
 pub numbers-y-requires : goal.numbers-y-requires
 numbers-y-requires c =
-    tally-fits c.requires c.if-s-all.false c.if-s-eq0.false c.if-s.false
+    tally-fits c.requires c.if-s-n.false c.if-s-eq0.false c.if-s.false
 
 pub returns-then-not-isolates : goal.returns-then-not-isolates
 returns-then-not-isolates c =
-    judged_exposed c.requires c.if-s-all.false c.if-s-eq0.false c.if-s.false c.numbers-y.ensures
+    judged_exposed c.requires c.if-s-n.false c.if-s-eq0.false c.if-s.false c.numbers-y.ensures
     (sym c.isolates.ensures ∙ c.if-not-isolates.true)
 
 pub candidates-m-requires : goal.candidates-m-requires
 candidates-m-requires c =
-    sifts c.requires c.if-s-all.false c.if-s-eq0.false c.if-s.false c.numbers-y.ensures
+    sifts c.requires c.if-s-n.false c.if-s-eq0.false c.if-s.false c.numbers-y.ensures
 
 pub beaten-requires-clause-parts : goal.beaten-requires-clause-parts
 beaten-requires-clause-parts c =
-    rw c.lent.ensures.0
-    (parts c.requires c.if-s-all.false c.if-s-eq0.false c.if-s.false c.numbers-y.ensures c.candidates-m.ensures)
+    parts c.requires c.if-s-n.false c.if-s-eq0.false c.if-s.false c.numbers-y.ensures c.candidates-m.ensures
 
 pub beaten-requires-clause-posed : goal.beaten-requires-clause-posed
 beaten-requires-clause-posed c =
-    rw c.lent.ensures.0
-    (posed c.requires c.if-s-all.false c.if-s-eq0.false c.if-s.false c.numbers-y.ensures c.candidates-m.ensures)
+    posed c.requires c.if-s-n.false c.if-s-eq0.false c.if-s.false c.numbers-y.ensures c.candidates-m.ensures
 
 pub returns : goal.returns
 returns c =
-    judged_by c.requires c.if-s-all.false c.if-s-eq0.false c.if-s.false c.numbers-y.ensures c.candidates-m.ensures
-    (sym c.isolates.ensures ∙ c.if-not-isolates.false) (rw c.lent.ensures.0 at c.beaten.ensures)
+    judged_by c.requires c.if-s-n.false c.if-s-eq0.false c.if-s.false c.numbers-y.ensures c.candidates-m.ensures
+    (sym c.isolates.ensures ∙ c.if-not-isolates.false) c.beaten.ensures

@@ -24,8 +24,8 @@ pub returns-then-not-pairwise_joined : goal.returns-then-not-pairwise_joined
 returns-then-not-pairwise_joined c =
     decide_apart c.requires c.members_of-k.ensures c.if-k-eq0.false (rw (same-part c.requires c.members_of-k.ensures) at (sym c.pairwise_joined.ensures ∙ c.if-not-pairwise_joined.true))
 
-pub tally_of-y-requires-clause-few : goal.tally_of-y-requires-clause-few
-tally_of-y-requires-clause-few c = rw c.args.lent.now.listed.whole (members-few c.requires c.members_of-k.ensures)
+pub tally_of-y-requires-clause-members_fit : goal.tally_of-y-requires-clause-members_fit
+tally_of-y-requires-clause-members_fit c = rw c.args.lent.now.listed.whole (members-few c.requires c.members_of-k.ensures)
 
 pub tally_of-y-requires-clause-vertices : goal.tally_of-y-requires-clause-vertices
 tally_of-y-requires-clause-vertices c = rw c.args.lent.now.listed.whole (members-vertices c.requires c.members_of-k.ensures)

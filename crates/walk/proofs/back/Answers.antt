@@ -28,9 +28,9 @@ bounds-position-r c =
     omega (arith, highest-decided c.requires.0 c.requires.1 c.from-r.ensures, c.requires.0.bound, c.requires.0.long)
 
 -- the ranks that stay, of the left neighbours of the pivot
-trimmed : (c : After-trim-left) → Trimmed (part c.args.work.now (2 * c.args.g.now.ordered.table.n) c.args.s.left) (c.args.s.taken - 1) c.from-r.result c.trim-left.result
+trimmed : (c : After-trim-left) → Trimmed (part c.args.work.now (2 * c.args.g.now.lent.table.n) c.args.s.left) (c.args.s.taken - 1) c.from-r.result c.trim-left.result
 trimmed c =
-    let n = c.args.g.now.ordered.table.n in
+    let n = c.args.g.now.lent.table.n in
     let e : 2 * n + c.args.s.left - 2 * n ≡ c.args.s.left = omega arith in
     subst (λ (m : ℕ). Trimmed (take m (drop (2 * n) c.args.work.now)) (c.args.s.taken - 1) c.from-r.result c.trim-left.result) e c.trim-left.ensures
 
@@ -45,7 +45,7 @@ push_left-requires c =
     let q = c.requires in
     let r = c.from-r in
     let rest = last_opened q.0 q.1 r.ensures c.from-last.ensures c.degree-last_degree.ensures.0 q.2 (trimmed (goal.at.push_left-requires c).After-trim-left) in
-    ((opened r.result c.args.position.now, rest), omega (arith, highest-decided q.0 q.1 r.ensures, q.0.bound))
+    (c.args.g.now.ordered, ((opened r.result c.args.position.now, rest), omega (arith, highest-decided q.0 q.1 r.ensures, q.0.bound)))
 
 pub returns : goal.returns
 returns c =

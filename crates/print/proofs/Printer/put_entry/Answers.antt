@@ -11,10 +11,10 @@ use Rattle.print.proofs.Printed.{number_fits, byte_fits, put_empty, put-size, pu
 use Rattle.print.proofs.Printer.put_entry.Goals as goal
 use Rattle.print.proofs.Printer.put_entry.Goals.{Joined-left-eq1, then-entry-eq0, else-entry-eq0, then-left-eq1, else-left-eq1}
 
-pub returns-then-left-eq0-clause-puts : goal.returns-then-left-eq0-clause-puts
-returns-then-left-eq0-clause-puts c =
+pub returns-then-left-eq0 : goal.returns-then-left-eq0
+returns-then-left-eq0 c =
     elim c.if-entry-eq0.branch [
-      | then-entry-eq0 w ↦ rw (c.from.ensures, w.self-is) (put_empty c.if-left-eq0.true w.if-entry-eq0.true w.put.ensures.puts)
+      | then-entry-eq0 w ↦ rw (c.from.ensures, w.self-is) (put_empty c.if-left-eq0.true w.if-entry-eq0.true w.put.ensures)
       | else-entry-eq0 w ↦ rw (c.from.ensures, w.self-is) (put-size c.if-left-eq0.true w.if-entry-eq0.false (omega arith))
     ]
 
@@ -30,8 +30,8 @@ parting c =
     ]
 
 pub put-requires-2 : goal.put-requires-2
-put-requires-2 c = rw (ap length (parting c)) (byte_fits _ (omega arith) (omega arith) c.put_number.ensures.puts)
+put-requires-2 c = rw (ap length (parting c)) (byte_fits _ (omega arith) (omega arith) c.put_number.ensures)
 
-pub returns-clause-puts : goal.returns-clause-puts
-returns-clause-puts c =
-    put-vertex c.if-left-eq0.false (omega arith) (rw c.from-2.ensures at c.put_number.ensures.puts) (puts_as (parting (goal.at.returns-clause-puts c).Joined-left-eq1) c.put-2.ensures.puts) refl
+pub returns : goal.returns
+returns c =
+    put-vertex c.if-left-eq0.false (omega arith) (rw c.from-2.ensures at c.put_number.ensures) (puts_as (parting (goal.at.returns c).Joined-left-eq1) c.put-2.ensures) refl

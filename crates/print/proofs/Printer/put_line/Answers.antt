@@ -2,5 +2,5 @@
 use Rattle.print.proofs.Printed.{puts-line}
 use Rattle.print.proofs.Printer.put_line.Goals as goal
 
-pub returns-clause-puts : goal.returns-clause-puts
-returns-clause-puts c = puts-line c.put.ensures.puts c.put_number.ensures.puts c.put-2.ensures.puts c.put_number-2.ensures.puts c.put-3.ensures.puts
+pub returns : goal.returns
+returns c = puts-line c.put.ensures c.put_number.ensures c.put-2.ensures c.put_number-2.ensures c.put-3.ensures

@@ -15,5 +15,5 @@ put_digits c = c.as_bytes.ensures.value ∙ c.format.ensures.text ∙ sym (numer
 pub put-requires : goal.put-requires
 put-requires c = omega (arith, ap length (put_digits c))
 
-pub returns-clause-puts : goal.returns-clause-puts
-returns-clause-puts c = puts_as (put_digits (goal.at.returns-clause-puts c).After-as_bytes) c.put.ensures.puts
+pub returns : goal.returns
+returns c = puts_as (put_digits (goal.at.returns c).After-as_bytes) c.put.ensures

@@ -28,9 +28,8 @@ push-requires c =
     let q = c.requires in
     let p = c.args.position.now in
     let d = c.args.self.decided in
-    let low : d < c.args.g.now.ordered.table.n = omega (arith, q.0.bound) in (
-      (reopened p, stands_copied q.0 (copied_part _ _ (omega arith) (omega arith) c.copy_from_slice.ensures.after) q.1),
-      low,
+    let low : d < c.args.g.now.lent.table.n = omega (arith, q.0.bound) in (
+      ((reopened p, stands_copied q.0 (copied_part _ _ (omega arith) (omega arith) c.copy_from_slice.ensures.after) q.1), low),
       omega (arith, c.if-mark-eq-OPEN.false),
       bytes_most 2 p q.2 d (omega (arith, (last_decides p q.0).same_length, q.0.long)),
     )

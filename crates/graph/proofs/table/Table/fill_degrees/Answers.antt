@@ -6,8 +6,8 @@ use Rattle.theory.proofs.Graph.DegreeList.{degree_list-only}
 use Rattle.graph.proofs.RowBounds.{table-degree}
 use Rattle.graph.proofs.table.Table.fill_degrees.Goals as goal
 
-pub overflow_cast-degrees : goal.overflow_cast-degrees
-overflow_cast-degrees c =
+pub overflow_cast-degree : goal.overflow_cast-degree
+overflow_cast-degree c =
     let t = c.args.self.now in
     let k : c.degree.result ≤ t.n = rw c.degree.ensures (table-degree _ _ _) in
     omega (arith, t.fits.small)

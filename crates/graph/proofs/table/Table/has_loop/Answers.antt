@@ -1,15 +1,16 @@
--- `graph::Table::has_loop` meets its contract.
+-- `graph::Table::has_loop` meets its contract: the chain asks of each vertex whether it is joined to itself.
 -- Assumes nothing.
-use mathlib.Core.Path.{sym, ◌∙◌}
-use native.Mathlib.Omega.{arith}
+use Rattle.std.proofs.Common.{rules, tests, refl, ◌∙◌, arith}
+use Rattle.std.proofs.lemmas.Iterator.{YieldsList-from_range}
+use Rattle.std.proofs.lemmas.Iterator.Search.{any_from_yields_List}
 use Rattle.model.specs.Calls.{looped}
-use Rattle.theory.proofs.Basics.Tests.{any_found, any_none}
+use Rattle.graph.specs.Held.{graph_in}
+use Rattle.graph.proofs.Chains.{list_any-below}
 use Rattle.graph.proofs.table.Table.has_loop.Goals as goal
-
-pub returns-then-joined : goal.returns-then-joined
-unfolding looped
-returns-then-joined c = sym (any_found _ _ c.loop-u.u c.loop-u-test.true (sym c.joined.ensures ∙ c.if-joined.true))
 
 pub returns : goal.returns
 unfolding looped
-returns c = sym (any_none _ _ (λ k h. c.loop-u.invariant k (omega arith)))
+returns c =
+    let t = c.args.self.now in
+    any_from_yields_List (λ u. (graph_in t).joined u u) _ _ _ c.any.ensures.ran (YieldsList-from_range 0 t.n _ refl (omega arith)) (λ x b q k. search (rules, tests))
+    ∙ list_any-below _ _

@@ -1,12 +1,18 @@
--- `graph::Table::has_one_way` meets its contract.
+-- `graph::Table::has_one_way` meets its contract: the chain asks of each row up to the diagonal.
 -- Assumes nothing.
-use mathlib.Core.Path.{sym, ◌∙◌}
-use native.Mathlib.Omega.{arith}
-use Rattle.graph.proofs.Faults.{one_way-found, one_way-none}
+use Rattle.std.proofs.Common.{rules, tests, refl, ◌∙◌, arith}
+use Rattle.std.proofs.lemmas.Iterator.{YieldsList-from_range}
+use Rattle.std.proofs.lemmas.Iterator.Search.{any_from_yields_List}
+use Rattle.model.specs.Below.{any}
+use Rattle.graph.specs.Table.{differ}
+use Rattle.graph.specs.Held.{graph_in}
+use Rattle.graph.proofs.Chains.{list_any-below}
+use Rattle.graph.proofs.Faults.{one_way-rows}
 use Rattle.graph.proofs.table.Table.has_one_way.Goals as goal
 
-pub returns-then-row_one_way : goal.returns-then-row_one_way
-returns-then-row_one_way c = sym (one_way-found _ _ c.loop-u-test.true (sym c.row_one_way.ensures ∙ c.if-row_one_way.true))
-
 pub returns : goal.returns
-returns c = sym (one_way-none _ (λ k h. c.loop-u.invariant k (omega arith)))
+returns c =
+    let t = c.args.self.now in
+    any_from_yields_List (λ u. any u (differ (graph_in t) u)) _ _ _ c.any.ensures.ran (YieldsList-from_range 0 t.n _ refl (omega arith)) (λ x b q k. search (rules, tests))
+    ∙ list_any-below _ _
+    ∙ one_way-rows (graph_in t)

@@ -1,16 +1,19 @@
--- `graph::Table::has_wrong_degree` meets its contract.
+-- `graph::Table::has_wrong_degree` meets its contract: the chain asks of each entry whether it is its vertex's degree.
 -- Assumes nothing.
-use mathlib.Core.Path.{sym, ap}
-use mathlib.Core.Bool.{not}
-use native.Mathlib.Omega.{arith}
-use borrow.Author.Tests.{eq-eqb, ne_eqb}
-use Rattle.theory.proofs.Basics.Tests.{any_found, any_none}
+use Rattle.std.proofs.Common.{rules, tests, ◌∙◌, ap, not, eqb, get_or, ℕ}
+use Rattle.std.proofs.lemmas.Iterator.{YieldsList-from_slice}
+use Rattle.std.proofs.lemmas.Iterator.Consumers.{YieldsList-from_enumerate}
+use Rattle.std.proofs.lemmas.Iterator.Search.{any_from_yields_List}
+use Rattle.model.specs.Below.{any}
+use Rattle.model.specs.Graph.{degree}
+use Rattle.graph.specs.Held.{graph_in}
+use Rattle.graph.proofs.Chains.{list_any-indexed}
 use Rattle.graph.proofs.table.Table.has_wrong_degree.Goals as goal
 
-pub returns-then-from-degree : goal.returns-then-from-degree
-returns-then-from-degree c =
-    sym (any_found _ _ c.loop-v.v c.loop-v-test.true
-    (ap not (ne_eqb _ _ (λ q. omega (arith, c.if-from-degree.true, c.from.ensures, c.degree.ensures)))))
-
 pub returns : goal.returns
-returns c = sym (any_none _ _ (λ k h. ap not (eq-eqb _ _ (c.loop-v.invariant k (omega arith)))))
+returns c =
+    let t = c.args.self.now in
+    let d = c.args.degrees.now in
+    any_from_yields_List (λ e. not (eqb e.1 (degree (graph_in t) e.0))) _ _ _ c.any.ensures.ran (YieldsList-from_enumerate (YieldsList-from_slice d cc) cc) (λ x b q k. search (rules, tests))
+    ∙ list_any-indexed (λ v k. not (eqb k (degree (graph_in t) v))) d
+    ∙ ap (λ (n : ℕ). any n (λ v. not (eqb (get_or d v 0) (degree (graph_in t) v)))) c.requires

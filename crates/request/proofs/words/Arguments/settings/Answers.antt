@@ -27,7 +27,7 @@ returns-in_err-factor c =
 pub returns-in_err-check : goal.returns-in_err-check
 returns-in_err-check c =
     let p = err_from_is_err_and c.from_residual-in_err-check.result c.from_residual-in_err-check.ensures.1 in
-    rw (p.1, p.2) (read_bounds _ c.if-self-ne-WORDS.false c.in_ok-notion.ensures c.in_ok-kind.ensures c.in_ok-factor.ensures c.in_err-check.ensures)
+    rw (p.1, p.2) (read_bounds _ c.if-self-ne-WORDS.false c.in_ok-notion.ensures c.in_ok-kind.ensures c.in_ok-factor.ensures c.in_err-check.ensures.refused)
 
 pub returns : goal.returns
-returns c = read_chosen _ c.if-self-ne-WORDS.false c.in_ok-notion.ensures c.in_ok-kind.ensures c.in_ok-factor.ensures c.in_ok-check.ensures
+returns c = read_chosen _ c.if-self-ne-WORDS.false c.in_ok-notion.ensures c.in_ok-kind.ensures c.in_ok-factor.ensures c.in_ok-check.ensures.refused

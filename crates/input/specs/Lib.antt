@@ -1,0 +1,2 @@
+-- What a call has that passes the refusals of its input.
+pub mod Given

@@ -1,0 +1,58 @@
+// What sets are judged by, and the isolation test over a set's numbers.
+ghost use Rattle.std.specs.Prelude.{◌≤◌};
+
+use crate::{Kind, Notion, Tally};
+
+// What sets are judged by, read off settings that are not refused: the notion, the kind, and the factor c, which is at most 1,024.
+#[derive(Clone, Copy, Debug, PartialEq, Eq)]
+pub struct Criterion {
+    pub notion: Notion,
+    pub kind: Kind,
+    pub factor: u32,
+    pub ghost fits: { factor ≤ 1024 },
+}
+
+impl Criterion {
+    ghost use Rattle.std.specs.Prelude.{◌≡◌, ◌+◌};
+    ghost use Rattle.model.specs.Groups.{within};
+    ghost use Rattle.isolation.specs.Numbers.{isolated_of, hopeless_of};
+
+    // Whether x is less than c × k, c being the factor: the one comparison with it. Document 002, section 2.1: "less than", never "at most".
+    pub fn within(self, k: usize, x: usize) -> bool
+        requires { k ≤ 1024 }
+        ensures { result ≡ within self.factor k x }
+    {
+        // The library, as Rust's, has no From that leads from u32 to usize.
+        let bound = (self.factor as usize) * k;
+        x < bound
+    }
+
+    // The isolation test of a clique with the numbers t, a member of degree d having d - (k - 1) neighbours outside the k members. Document 002,
+    // section 2.1: min, at least one member has less than c of them; avg, there are less than c × k in all; max, every member has less than c.
+    pub fn isolates(self, t: Tally) -> bool
+        requires { t.members ≤ 1024 }
+        ensures { result ≡ isolated_of self t }
+    {
+        let others = t.members.saturating_sub(1);
+        match self.notion {
+            Notion::Min => self.within(1, t.least.saturating_sub(others)),
+            Notion::Avg => self.within(t.members, t.sum.saturating_sub(t.members * others)),
+            Notion::Max => self.within(1, t.largest.saturating_sub(others)),
+        }
+    }
+
+    // Whether no superset of a set with the numbers t, within r further candidates, is isolated: each member loses at most r more of its neighbours
+    // outside. Under min it says no.
+    pub fn hopeless(self, t: Tally, r: usize) -> bool
+        requires { t.members + r ≤ 1024 }
+        ensures { result ≡ hopeless_of self t r }
+    {
+        let all = t.members + r;
+        let most = all.saturating_sub(1);
+        match self.notion {
+            Notion::Min => false,
+            Notion::Avg => !self.within(all, t.sum.saturating_sub(t.members * most)),
+            Notion::Max => !self.within(1, t.largest.saturating_sub(most)),
+        }
+    }
+}
