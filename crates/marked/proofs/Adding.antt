@@ -8,7 +8,7 @@ use mathlib.Core.Logic.{◌⊎◌, inl, inr}
 use native.Mathlib.Omega.{arith}
 use lib.ListN.{length, get_or, take}
 use lib.Seq.{ext_get_or, get_or-take, length-take-le}
-use Rattle.std.specs.Prelude.{EachIndex, slice_index}
+use Rattle.graph.specs.Vertices.{VerticesOf}
 use Rattle.graph.proofs.Vertices.{part-vertices}
 use Rattle.theory.specs.Parts.{part}
 use Rattle.model.specs.Graph.{Graph, degree}
@@ -55,7 +55,7 @@ module _ {G : Graph} {w : List ℕ} {q : Criterion} {y : Tally} {low v i m left 
   left-few = let k = count_most (marks_in n w) i (m - i) in let e = state.still in omega arith
 
   -- the candidates that are lent are vertices
-  pub lent-vertices : {front : List ℕ} → front ≡ take (4 * n) w → let cs = part front (3 * n + i) (3 * n + m - (3 * n + i)) in EachIndex cs (λ e. slice_index cs e < n)
+  pub lent-vertices : {front : List ℕ} → front ≡ take (4 * n) w → VerticesOf n (part front (3 * n + i) (3 * n + m - (3 * n + i)))
   lent-vertices {front} q =
       let f = state.few in
       let o = state.order in

@@ -25,7 +25,7 @@ use Rattle.larger.specs.Search.{Posed}
 use Rattle.larger.specs.Search as larger
 use Rattle.larger.proofs.Maximal.{beaten-kind, beaten-min, beaten_search, posed_room}
 use Rattle.marked.specs.Search.{Lowest, Start, FirstFound, Room, Searched, Tested}
-use Rattle.std.specs.Prelude.{EachIndex, slice_index}
+use Rattle.graph.specs.Vertices.{VerticesOf}
 use Rattle.graph.proofs.Vertices.{part-vertices}
 use Rattle.theory.proofs.Basics.Parts.{part_length, part_at, part-below, kept-none}
 use borrow.Rule.Slice.PartMut.{put_mid}
@@ -76,7 +76,7 @@ module _ {G : Graph} {w : List ℕ} {q : Criterion} {y : Tally} {m : ℕ} (small
           short : 3 * n + m - 3 * n ≡ m
           short = omega arith
 
-      pub reads_least : EachIndex (part w₁ (3 * n) (3 * n + m - 3 * n)) (λ i. slice_index (part w₁ (3 * n) (3 * n + m - 3 * n)) i < n)
+      pub reads_least : VerticesOf n (part w₁ (3 * n) (3 * n + m - 3 * n))
       reads_least = rw same-part (part-vertices n w (3 * n) m room.candidates)
 
       -- all candidates are in where their marks are filled with 0

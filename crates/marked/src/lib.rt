@@ -3,8 +3,9 @@
 // of their degrees. No crate calls it yet: the others call `larger::beaten`, which answers the same.
 #![tactic(auto)]
 
-ghost use Rattle.std.specs.Prelude.{◌≡◌, ◌+◌, ◌*◌, ◌<◌, ◌≤◌, length, slice_index, EachIndex};
+ghost use Rattle.std.specs.Prelude.{◌≡◌, ◌+◌, ◌*◌, ◌<◌, ◌≤◌, length};
 ghost use Rattle.graph.specs.Held.{graph_in};
+ghost use Rattle.graph.specs.Vertices.{VerticesOf};
 ghost use Rattle.larger.specs.Search.{Posed};
 ghost use Rattle.marked.specs.Marks.{dropped, returned, BringsBack};
 ghost use Rattle.marked.specs.Numbers.{grown_of, hopeless_of};
@@ -96,7 +97,7 @@ fn returned(depth: u16, mark: u16) -> u16
 
 // A number that no degree of the candidates is below, here the least of them. Reads the candidates and their degrees.
 fn least_degree(lent: &Lent<'_>, candidates: &[u16]) -> usize
-    requires { EachIndex candidates.now (λ i. slice_index candidates.now i < lent.now.table.n) }
+    requires { VerticesOf lent.now.table.n candidates.now }
     ensures { Lowest (graph_in lent.now.table) candidates.now result }
 {
     let mut low = usize::from(u16::MAX);
@@ -117,7 +118,7 @@ fn drop_out(
     depth: usize,
 ) -> usize
     requires member { (v < table.now.n) × (depth ≤ 1024) }
-    requires vertices { EachIndex candidates.now (λ i. slice_index candidates.now i < table.now.n) }
+    requires vertices { VerticesOf table.now.n candidates.now }
     requires beside { length candidates.now ≡ length marks.old }
     ensures { Dropped (graph_in table.now) candidates.now marks.old marks.new v depth result }
 {
