@@ -89,18 +89,18 @@ fn compare_walk(settings: Settings, size: usize, further: usize) {
 
 pub fn print() {
     println!("## The test for a larger isolated clique\n");
-    println!("Is there a larger isolated clique? Kind 0. Before: a common neighbour is compared with each one added, and the search gives up");
-    println!("where those not yet tried are too few. After: first they are gone through at most once, and each that is joined to those added");
-    println!("so far is added, which often finds a larger isolated clique. Only then comes the search. In it, one that is not joined to one");
-    println!("added is marked with the depth at which it drops out, and is in again when the search returns from there; so it is known how");
-    println!("many are still in. It gives up where neither all of these nor one of them would do, each with the least degree that it can");
-    println!("have: the least among the common neighbours, or what the clique itself takes. A node is a larger clique that is looked at.");
+    println!("Is there a larger isolated clique? Kind 0. Before C-13: a common neighbour is compared with each one added, and the search gives");
+    println!("up where those not yet tried are too few. After: one that is not joined to one added is marked with the depth at which it drops");
+    println!("out, and is in again when the search returns from there; so it is known how many are still in. The first is tried before any");
+    println!("mark is written. It gives up where neither all that are still in nor, under avg, one of them would do, each with the least");
+    println!("degree that it can have: the least among the common neighbours after the first, or what the clique itself takes. Both sides are");
+    println!("plain safe Rust. A node is a larger clique that is looked at.");
     println!("Times are of one test: the common neighbours are listed as a page does, then searched. `clique`: three members with c - 1");
     println!("common neighbours; so many in a hundred of their pairs are joined, and each has so many further neighbours: the fewest where");
     println!("the answer is no, then one less. `blocks`: near-cliques in a graph of 128, and the tests that the walk meets, up to {TESTS}.");
-    println!("The library's search alone is the set query less the same at kind 1, which searches nothing; it is blank where there is more");
-    println!("than one test or where it takes less time than the rest of the query. The bar: nowhere slower by more than a tenth, and faster");
-    println!("where the search is deep. The library has the search before; the one after is crate `marked`, which nothing calls yet.\n");
+    println!("The library has the search after. Its search alone is the set query less the same at kind 1, which searches nothing; it is");
+    println!("blank where there is more than one test or where it takes less time than the rest of the query. The bar: nowhere slower by more");
+    println!("than a tenth, and faster where the search is deep.\n");
     println!("| graph | settings | tests | yes | nodes before | nodes after | before | after | after to before | library alone | library to after |");
     println!("|---|---|---|---|---|---|---|---|---|---|---|");
     let settings = |notion, c| Settings { notion, kind: Kind::MaximalIsolated, c };

@@ -1,4 +1,5 @@
-//! The search for a larger isolated clique as the library has it: a candidate is compared with each member that was added.
+//! The search for a larger isolated clique as the library had it before C-13: a candidate is compared with each member that was
+//! added.
 
 use crate::posed::Lent;
 use crate::tally::Tally;

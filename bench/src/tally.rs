@@ -45,12 +45,14 @@ impl Tally {
         Tally { members, sum: self.sum + further * each, least: self.least, largest: self.largest.max(each) }
     }
 
-    /// Is none isolated of the cliques with these members and 1 to so many further ones, none of a degree below low? It is so
-    /// where none is with all of them or with one. Under min it says no.
+    /// Is none isolated of the cliques with these members and 1 to so many further ones, none of a degree below low? Under avg it
+    /// is so where none is with all of them or with one, under max where none is with all of them. Under min it says no.
     pub fn hopeless(self, settings: Settings, further: usize, low: usize) -> bool {
-        if settings.notion == Notion::Min {
-            return false;
+        let isolated = |further| self.grown(further, low).isolated(settings);
+        match settings.notion {
+            Notion::Min => false,
+            Notion::Avg => further == 0 || !isolated(further) && !isolated(1),
+            Notion::Max => further == 0 || !isolated(further),
         }
-        further == 0 || !(self.grown(further, low).isolated(settings) || self.grown(1, low).isolated(settings))
     }
 }

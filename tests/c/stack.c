@@ -1,7 +1,7 @@
 /*
  * Each call in a thread that has ISOLATED_STACK bytes of stack for it and a page below them that cannot be touched:
- * page and set query at the deepest search that a graph can ask for, the edits, the count of the degrees and the
- * reader. Prints what each used.
+ * page and set query at the deepest search that a graph can ask for, a set query whose search drops candidates, the
+ * edits, the count of the degrees and the reader. Prints what each used.
  */
 #define _GNU_SOURCE /* for MAP_ANONYMOUS */
 #include "isolated.h"
@@ -22,6 +22,7 @@ static char text[12 * N];
 
 static unsigned char *from; /* where the call was made, on the thread's stack */
 static int answered;        /* whether the answer was the one expected */
+static unsigned yes = 1;    /* the answer that a set query is to give */
 
 static void join(size_t u, size_t v) { table[u * N + v] = table[v * N + u] = 1; }
 
@@ -42,6 +43,21 @@ static void make_deepest_graph(void) {
     }
 }
 
+/*
+ * The same where for each added neighbour another one drops out, so that the search is half as deep: it has added 255 of
+ * vertex 0's C - 1 neighbours, each not joined to one of 255 more, when the last makes a set that is isolated.
+ */
+static void make_dropping_graph(void) {
+    memset(table, 0, sizeof table);
+    for (size_t v = 1; v < C; v++) {
+        size_t further = v < C / 2 ? C / 2 + 1 : v < C - 1 ? C / 2 + 2 : C / 2;
+        for (size_t u = 0; u < v; u++) {
+            if (u == 0 || u + C / 2 - 1 != v) join(u, v);
+        }
+        for (size_t u = C; u < C + further; u++) join(u, v);
+    }
+}
+
 static void *ask_page(void *unused) {
     unsigned char here;
     isolated_page_answer answer;
@@ -58,7 +74,7 @@ static void *ask_set(void *unused) {
     from = &here;
     answer = isolated_set_query(table, sizeof table, degrees, N, set, N, work, ISOLATED_WORK(N), N, ISOLATED_MAX,
                                 ISOLATED_MAXIMAL_ISOLATED, C);
-    answered = answer.refusal == 0 && answer.yes == 1;
+    answered = answer.refusal == 0 && answer.yes == yes;
     return unused;
 }
 
@@ -131,11 +147,15 @@ int main(void) {
     measure("join", ask_join, 0);
     measure("part", ask_part, 0);
     set[0] = 1;
-    /* The deepest search makes 512 calls, each of more than 128 bytes. */
+    /* The deepest search adds 511 members, each at more than 128 bytes. */
     measure("set query", ask_set, 512 * 128);
     /* Vertex 0 has rank 1: only vertex N - 1, of degree 1, comes before it. */
     memset(position, ISOLATED_LEFT, N);
     position[1] = ISOLATED_TAKEN;
     measure("page", ask_page, ISOLATED_STACK / 2);
+    make_dropping_graph();
+    if (isolated_degrees(table, sizeof table, degrees, N, N) != 0) exit(2);
+    yes = 0;
+    measure("set query that drops candidates", ask_set, 256 * 128);
     return 0;
 }

@@ -4,7 +4,8 @@ use Rattle.std.proofs.Common.{◌≡◌, ℕ, zero, suc, ◌≤◌, refl, arith,
 use Rattle.model.specs.Graph.{Graph}
 use Rattle.model.specs.Groups.{VertexSet, Factor, settings, isolated, isolated_clique, rival, some_larger, qualifies, within}
 use Rattle.model.specs.Listing.{dead, taken_set, record_of, rules}
-use Rattle.theory.specs.Search.{isolated_by, hopeless}
+use Rattle.theory.specs.Search.{isolated_by}
+use Rattle.theory.specs.Bound.{hopeless}
 use Rattle.isolation.specs.declared.Settings.{Settings}
 use Rattle.isolation.specs.declared.Tally.{Tally}
 use Rattle.isolation.specs.declared.criterion.Criterion.{Criterion}
@@ -60,11 +61,12 @@ isolated-read (suc zero) c k sum least largest = refl
 isolated-read (suc (suc m)) c k sum least largest = refl
 
 -- and so is the test for being hopeless
-pub hopeless-read : (m : ℕ) (c : Factor) (k r sum largest : ℕ) → hopeless (notion_number (notion_of m)) c k r sum largest ≡ hopeless m c k r sum largest
-unfolding hopeless
-hopeless-read zero c k r sum largest = refl
-hopeless-read (suc zero) c k r sum largest = refl
-hopeless-read (suc (suc m)) c k r sum largest = refl
+hopeless-read : (m : ℕ) (c : Factor) (low r k sum least largest : ℕ)
+    → hopeless (notion_number (notion_of m)) c low r k sum least largest ≡ hopeless m c low r k sum least largest
+unfolding hopeless isolated_by
+hopeless-read zero c low r k sum least largest = refl
+hopeless-read (suc zero) c low r k sum least largest = refl
+hopeless-read (suc (suc m)) c low r k sum least largest = refl
 
 -- and so is what qualifies
 qualifies-read : (G : Graph) (m k : ℕ) (c : Factor) (S : VertexSet)
@@ -83,8 +85,8 @@ module _ (s : Settings) (q : Criterion) (read : CriterionOf s q) where
   isolated-any t = rw (read.notion, read.factor) (isolated-read s.notion s.factor t.members t.sum t.least t.largest)
 
   -- and finds hopeless what they do
-  pub hopeless-any : (t : Tally) (r : ℕ) → hopeless_of q t r ≡ hopeless s.notion s.factor t.members r t.sum t.largest
-  hopeless-any t r = rw (read.notion, read.factor) (hopeless-read s.notion s.factor t.members r t.sum t.largest)
+  pub hopeless-any : (t : Tally) (r low : ℕ) → hopeless_of q t r low ≡ hopeless s.notion s.factor low r t.members t.sum t.least t.largest
+  hopeless-any t r low = rw (read.notion, read.factor) (hopeless-read s.notion s.factor low r t.members t.sum t.least t.largest)
 
   -- the same sets qualify
   pub qualifies-any : (G : Graph) (S : VertexSet) → qualifies G (settings_in q) S ≡ qualifies G (settings_of s) S

@@ -1,9 +1,10 @@
--- The settings, the criterion and a set's numbers as code hands them on, and the tests of `Rattle.theory.specs.Search` over them.
+-- The settings, the criterion and a set's numbers as code hands them on, and the tests of `Rattle.theory.specs.Search` and `Rattle.theory.specs.Bound` over them.
 -- Assumes nothing.
-use Rattle.std.specs.Prelude.{ℕ, zero, suc, ◌+◌, ◌≤◌, ◌≡◌, min, max, Bool, List}
+use Rattle.std.specs.Prelude.{ℕ, zero, suc, ◌+◌, ◌*◌, ◌≤◌, ◌≡◌, min, max, Bool, List}
 use Rattle.model.specs.Graph.{Graph}
 use Rattle.model.specs.Groups as groups
 use Rattle.theory.specs.Search as search
+use Rattle.theory.specs.Bound as bound
 use Rattle.isolation.specs.declared.Kind.{Kind}
 use Rattle.isolation.specs.declared.Kind.TheVariants.{MaximalIsolated, IsolatedMaximal}
 use Rattle.isolation.specs.declared.Notion.{Notion}
@@ -31,6 +32,16 @@ kind_of (suc k) = IsolatedMaximal
 -- the numbers with one more member, of degree d
 abbrev pub with_member : Tally → ℕ → Tally
 with_member t d = record { members = t.members + 1; sum = t.sum + d; least = min t.least d; largest = max t.largest d }
+
+-- the numbers with x further members, of the least degree that they can have, the least degree of all left as it is
+abbrev pub grown_of : Tally → ℕ → ℕ → Tally
+grown_of t x low =
+    record {
+      members = t.members + x;
+      sum = t.sum + x * bound.further_degree low t.members x;
+      least = t.least;
+      largest = max t.largest (bound.further_degree low t.members x);
+    }
 
 -- the factor's bound, as settings that are not refused have it: it is at most 1,024
 unfoldable pub FactorFits : Settings → Type 0
@@ -61,13 +72,9 @@ settings_in q = record { notion = notion_number q.notion; kind = kind_number q.k
 abbrev pub isolated_of : Criterion → Tally → Bool
 isolated_of q t = search.isolated_by (settings_in q).notion (settings_in q).factor t.members t.sum t.least t.largest
 
--- no superset within r further candidates is isolated
-abbrev pub hopeless_of : Criterion → Tally → ℕ → Bool
-hopeless_of q t r = search.hopeless (settings_in q).notion (settings_in q).factor t.members r t.sum t.largest
-
--- the search that leaves a hopeless branch
-abbrev pub find_of : Graph → Criterion → List ℕ → Tally → List ℕ → Bool
-find_of G q added t vs = search.find_cut G (settings_in q).notion (settings_in q).factor added t.members t.sum t.least t.largest vs
+-- where it says yes no clique with 1 to r further members, each of degree low or more, is isolated
+abbrev pub hopeless_of : Criterion → Tally → ℕ → ℕ → Bool
+hopeless_of q t r low = bound.hopeless (settings_in q).notion (settings_in q).factor low r t.members t.sum t.least t.largest
 
 -- whether an isolated clique with these numbers and the candidates vs is not maximal
 abbrev pub beaten_of : Graph → Criterion → Tally → List ℕ → Bool

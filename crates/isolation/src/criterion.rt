@@ -41,18 +41,18 @@ impl Criterion {
         }
     }
 
-    // Whether no superset of a set with the numbers t, within r further candidates, is isolated: each member loses at most r more of its neighbours
-    // outside. Under min it says no.
-    pub fn hopeless(self, t: Tally, r: usize) -> bool
-        requires { t.members + r ≤ 1024 }
-        ensures { result ≡ hopeless_of self t r }
+    // Says yes only where no clique of the members with the numbers t and 1 to r further ones, each of degree low or more, is isolated: it is tested with r and,
+    // under avg, with 1 of the least degree that they can have. Under min it says no.
+    pub fn hopeless(self, t: Tally, r: usize, low: usize) -> bool
+        requires { (t.members + r ≤ 1024) × (t.sum ≤ 67107840) × (low ≤ 65535) }
+        ensures { result ≡ hopeless_of self t r low }
     {
-        let all = t.members + r;
-        let most = all.saturating_sub(1);
         match self.notion {
             Notion::Min => false,
-            Notion::Avg => !self.within(all, t.sum.saturating_sub(t.members * most)),
-            Notion::Max => !self.within(1, t.largest.saturating_sub(most)),
+            Notion::Avg => {
+                r == 0 || !self.isolates(t.grown(r, low)) && !self.isolates(t.grown(1, low))
+            }
+            Notion::Max => r == 0 || !self.isolates(t.grown(r, low)),
         }
     }
 }

@@ -1,10 +1,10 @@
 // The settings of a call, the criterion that they are read as, and a set's numbers.
 #![tactic(auto)]
 
-ghost use Rattle.std.specs.Prelude.{◌≡◌, ◌≤◌, IfOk};
+ghost use Rattle.std.specs.Prelude.{◌≡◌, ◌+◌, ◌≤◌, IfOk};
 ghost use Rattle.model.specs.Calls.{refuse_settings};
 ghost use Rattle.refusal.specs.Numbers.{fault};
-ghost use Rattle.isolation.specs.Numbers.{settings_of, settings_in, notion_of, kind_of, with_member, FactorFits, CriterionOf};
+ghost use Rattle.isolation.specs.Numbers.{settings_of, settings_in, notion_of, kind_of, with_member, grown_of, FactorFits, CriterionOf};
 
 pub mod criterion;
 
@@ -111,6 +111,22 @@ impl Tally {
             sum: self.sum + d,
             least: self.least.min(d),
             largest: self.largest.max(d),
+        }
+    }
+
+    // The numbers with x further members, of the least degree that they can have: the larger of low and of how many others the clique then has. The least degree is left as
+    // it is.
+    pub fn grown(self, x: usize, low: usize) -> Tally
+        requires { (self.members + x ≤ 1024) × (self.sum ≤ 67107840) × (low ≤ 65535) }
+        ensures { result ≡ grown_of self x low }
+    {
+        let members = self.members + x;
+        let each = low.max(members.saturating_sub(1));
+        Tally {
+            members,
+            sum: self.sum + x * each,
+            least: self.least,
+            largest: self.largest.max(each),
         }
     }
 }

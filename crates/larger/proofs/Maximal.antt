@@ -1,20 +1,20 @@
 -- The test of an isolated clique for being maximal of its kind, as code branches on kind and notion.
 -- Assumes nothing.
-use Prim.Native.Nat.{ℕ, zero, suc, ◌+◌, ◌-◌, ◌*◌, ◌≤◌, zero-le}
+use Prim.Native.Nat.{ℕ, zero, suc, ◌+◌, ◌*◌, ◌≤◌}
 use mathlib.Core.Path.{◌≡◌, refl, sym, ap, ◌∙◌}
-use mathlib.Core.Bool.{Bool, true, false, cond}
+use mathlib.Core.Bool.{Bool, true, false}
 use mathlib.Core.List.{List, [], ◌∷◌, ◌++◌}
 use mathlib.Core.Logic.{◌≢◌}
 use native.Mathlib.Omega.{arith}
 use lib.ListN.{length}
 use lib.Dec.{ltb}
+use denote.Enum.Bare.{sameb}
 use Rattle.std.specs.Prelude.{min, max}
-use Rattle.model.specs.Below.{bit, count}
 use Rattle.model.specs.Graph.{Graph, degree}
-use Rattle.model.specs.Groups.{Factor, VertexSet, size_of}
-use Rattle.theory.specs.Search.{gather, degree_sum, find, find_larger, searched, beaten}
-use Rattle.theory.proofs.Graph.Degrees.{degree_le}
-use Rattle.theory.proofs.Search.Cut.{search_cut}
+use Rattle.model.specs.Groups.{Factor}
+use Rattle.theory.specs.Parts.{part}
+use Rattle.theory.specs.Search.{find_larger, searched, beaten}
+use Rattle.theory.proofs.Basics.Parts.{part_length, kept-none}
 use Rattle.isolation.specs.declared.Settings.{Settings}
 use Rattle.isolation.specs.declared.criterion.Criterion.{Criterion}
 use Rattle.isolation.specs.declared.Kind.{Kind}
@@ -24,26 +24,9 @@ use Rattle.isolation.specs.declared.Kind.TheVariants.{MaximalIsolated, IsolatedM
 use Rattle.isolation.specs.declared.Notion.TheVariants.{Min, Avg, Max}
 use Rattle.isolation.specs.contracts.Kind as kinds
 use Rattle.isolation.specs.contracts.Notion as notions
-use denote.Enum.Bare.{sameb}
-use Rattle.isolation.specs.Numbers.{kind_of, notion_of, kind_number, notion_number, CriterionOf, find_of, beaten_of}
+use Rattle.isolation.specs.Numbers.{kind_of, notion_of, kind_number, notion_number, CriterionOf, beaten_of}
 use Rattle.isolation.proofs.Notions.{isolated-read}
-use Rattle.theory.specs.Parts.{part}
-use Rattle.larger.specs.Search.{Room, Searched, Posed, Tested}
-use Rattle.theory.proofs.Basics.Parts.{part_length, part_at, state-none}
-
--- numbers of at most 1,024, summed over the members
-gather-small : (n : ℕ) (S : VertexSet) (f : ℕ → ℕ) → ((i : ℕ) → f i ≤ 1024) → gather ◌+◌ 0 n S f ≤ 1024 * count n S
-unfolding gather count
-gather-small zero S f h = zero-le
-gather-small (suc n) S f h = go (S n) (gather-small n S f h)
-  where
-    go : (b : Bool) → gather ◌+◌ 0 n S f ≤ 1024 * count n S → cond b (gather ◌+◌ 0 n S f + f n) (gather ◌+◌ 0 n S f) ≤ 1024 * (bit b + count n S)
-    go true k = let l = h n in omega arith
-    go false k = omega arith
-
-sum-small : (G : Graph) (S : VertexSet) → G.size ≤ 1024 → degree_sum G S ≤ 1024 * size_of G S
-unfolding degree_sum size_of
-sum-small G S h = gather-small G.size S (degree G) (λ i. let l = degree_le G i in omega arith)
+use Rattle.larger.specs.Search.{Posed, Found, Tested}
 
 module _ (G : Graph) (q : Criterion) (y : Tally) (vs : List ℕ) where
   -- a common neighbour decides, where no search is wanted
@@ -81,7 +64,7 @@ module _ (G : Graph) (q : Criterion) (y : Tally) (vs : List ℕ) where
 -- the search by the notion that a number is read as is that by the number
 find-read : (G : Graph) (m : ℕ) (c : Factor) (added : List ℕ) (k sum least largest : ℕ) (vs : List ℕ)
     → find_larger G (notion_number (notion_of m)) c added k sum least largest vs ≡ find_larger G m c added k sum least largest vs
-unfolding find
+unfolding find_larger
 find-read G m c added k sum least largest [] = refl
 find-read G m c added k sum least largest (v ∷ vs) =
     let d = degree G v in
@@ -116,50 +99,20 @@ notion-test Min e = (λ t. refl, λ f. cc)
 notion-test Avg e = (λ t. cc, λ f h. cc)
 notion-test Max e = (λ t. cc, λ f h. cc)
 
-module _ {G : Graph} {w : List ℕ} {q : Criterion} {y : Tally} {m : ℕ} (small : G.size ≤ 1024) (parts : 4 * G.size ≤ length w) (posed : Posed G w q y m) where
+module _ {G : Graph} {w : List ℕ} {q : Criterion} {y : Tally} {m : ℕ} (parts : 5 * G.size ≤ length w) (posed : Posed G w q y m) where
   abbrev n : ℕ
   n = G.size
 
   all-candidates : length (part w (3 * n) m) ≡ m
   all-candidates = let f = posed.room in part_length w (3 * n) m (omega arith)
 
-  -- room for a search with nothing added
-  pub posed_room : Room n w q y y.members 0 m
-  posed_room =
-      record {
-        from = omega arith;
-        left = omega arith;
-        few = omega arith;
-        sum =
-            let k = sum-small G posed.set small in
-            omega arith;
-        added = λ e h. absurd (omega arith);
-        candidates = λ e h.
-            let l = all-candidates in
-            let a = (posed.candidates.sound e (omega arith)).0 in
-            let p = part_at w (3 * n) m e h in
-            omega arith;
-      }
-
-  -- the search says what `beaten` asks for
-  pub by_search : q.kind ≡ MaximalIsolated → q.notion ≢ Min → {w₁ : List ℕ} {r : Bool} → Searched G w w₁ q y y.members 0 m r → Tested G w w₁ q y m r
-  by_search e d {w₁} {r} found =
-      record {
-        answer =
-            found.answer
-            ∙ ap (λ (k : ℕ). find_of G q (part w (n + y.members) k) y (part w (3 * n) m)) none
-            ∙ search_cut G posed.loopless posed.symmetric (notion_number q.notion) q.factor posed.set posed.clique (part w (3 * n) m)
-            posed.candidates y.members y.sum y.least y.largest posed.tally
-            ∙ sym (beaten_search G q y (part w (3 * n) m) e d);
-        kept = found.kept.state;
-      }
-    where
-      none : y.members - y.members ≡ 0
-      none = omega arith
+  -- the search decides
+  pub by_search : q.kind ≡ MaximalIsolated → q.notion ≢ Min → {w₁ : List ℕ} {r : Bool} → Found G w w₁ q y m r → Tested G w w₁ q y m r
+  by_search kind notion found = record { answer = found.answer ∙ sym (beaten_search G q y (part w (3 * n) m) kind notion); kept = found.kept }
 
   -- a common neighbour decides
   by_length : (r : Bool) → ltb 0 m ≡ r → beaten_of G q y (part w (3 * n) m) ≡ ltb 0 (length (part w (3 * n) m)) → Tested G w w q y m r
-  by_length r e f = record { answer = sym e ∙ ap (ltb 0) (sym all-candidates) ∙ sym f; kept = state-none }
+  by_length r e f = record { answer = sym e ∙ ap (ltb 0) (sym all-candidates) ∙ sym f; kept = kept-none _ _ w }
 
   pub by_kind : q.kind ≡ IsolatedMaximal → {r : Bool} → ltb 0 m ≡ r → Tested G w w q y m r
   by_kind d e = by_length _ e (beaten-kind G q y (part w (3 * n) m) d)

@@ -22,7 +22,7 @@ use Rattle.isolation.specs.declared.Tally.{Tally}
 use Rattle.isolation.specs.Numbers.{settings_in, isolated_of, beaten_of, TallyOf}
 use Rattle.theory.specs.Parts.{part, StateKept}
 use Rattle.larger.specs.Search.{Posed, Tested}
-use Rattle.theory.proofs.Basics.Parts.{part_length, state_then}
+use Rattle.theory.proofs.Basics.Parts.{part_length, kept-state, state_then}
 use Rattle.graph.proofs.Vertices.{part-vertices}
 use Rattle.state.specs.declared.State.{State}
 use Rattle.state.specs.State.{taken_ranks, left_ranks, Stands}
@@ -169,7 +169,7 @@ module _ {G : Graph} {w : List ℕ} {q : Criterion} {s : State} (a : Asks G w q 
         unfolding candidates_of
         candidates_are p h = f.found.listed ∙ ap₂ (λ (us vs : List ℕ). joined_of G us (map (vertex_at G) vs)) h.vertices h.left
 
-        pub parts : 4 * G.size ≤ length w₁
+        pub parts : 5 * G.size ≤ length w₁
         parts = let r = h₀.room in let k = f.found.kept.length-kept in omega arith
 
         pub posed : Posed G w₁ q y m
@@ -207,4 +207,4 @@ module _ {G : Graph} {w : List ℕ} {q : Criterion} {s : State} (a : Asks G w q 
             }
           where
             kept : StateKept G.size s.taken w w₂
-            kept = state_then f.found.kept x.kept (let k = ap (λ (z : Tally). z.members) e in omega arith)
+            kept = state_then f.found.kept (kept-state x.kept (omega arith) taken-few) (omega arith)

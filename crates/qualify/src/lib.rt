@@ -6,6 +6,7 @@ ghost use Rattle.std.specs.Prelude.{◌≡◌};
 ghost use Rattle.ranks.specs.Held.{ranked_graph};
 ghost use Rattle.qualify.specs.Qualify.{Sifts, Sifted, read_tally, TallyFits, Asks, SaysQualifies};
 
+use graph::{Lent, Table};
 use isolation::{Criterion, Tally};
 use larger::{beaten, joined_to_all};
 use ranks::Ranked;
@@ -50,8 +51,7 @@ fn numbers(s: State, g: &Ranked, members: &[u16]) -> Tally
     }
 }
 
-// Whether all ranks are decided and the taken set qualifies, of the position that the state and the work slice stand for. Writes part 3 of work, and part 1
-// past the taken vertices.
+// Whether all ranks are decided and the taken set qualifies, of the position that the state and the work slice stand for. Writes parts 3 and 4 of work.
 // The notions are document 002's, section 2.1; kind 0 is its definition 2 (maximal isolated) and kind 1 its definition 1 (isolated maximal).
 // A larger set is searched for, not screened by degree as in documents 000, section 3.2, and 002, section 2.2.3: that test is one vertex too
 // generous, and in a star with three leaves at factor 2 it discards all three groups (document 01, "Where the papers tempt").
@@ -75,5 +75,18 @@ pub fn qualifies(s: State, q: Criterion, g: &Ranked, work: &mut [u16]) -> bool
         return false;
     }
     let m = candidates(g, work, s.taken, s.left);
-    !beaten(&g.lent, work, q, y, m)
+    // Copies made here field by field, so that the page's loop keeps its own in registers at every step.
+    let lent = Lent {
+        table: Table {
+            bytes: g.lent.table.bytes,
+            n,
+        },
+        degrees: g.lent.degrees,
+    };
+    let criterion = Criterion {
+        notion: q.notion,
+        kind: q.kind,
+        factor: q.factor,
+    };
+    !beaten(&lent, work, criterion, y, m)
 }

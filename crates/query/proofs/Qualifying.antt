@@ -185,7 +185,7 @@ module _ {L : Lent} {bs w₀ : List ℕ} {q : Criterion} (ready : QueryReady L b
         has-candidates = subst (λ (vs : List ℕ). Candidates graph members vs) (sym candidates_are) (passing-candidates graph members)
 
         -- what `beaten` requires
-        pub beaten_asks : (4 * n ≤ length w₂) × Posed graph w₂ q y m
+        pub beaten_asks : (5 * n ≤ length w₂) × Posed graph w₂ q y m
         beaten_asks =
             let l = long in (
               omega arith,

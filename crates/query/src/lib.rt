@@ -65,7 +65,7 @@ fn lent_query<'a>(
 }
 
 // Whether the set qualifies, where the call is not refused: document 002, definitions 1 and 2, a clique that is
-// isolated and that no larger one of its kind contains. Reads the table, the degrees and the set; writes parts 1 and 3 of work.
+// isolated and that no larger one of its kind contains. Reads the table, the degrees and the set; writes parts 1, 3 and 4 of work.
 fn set_qualifies(lent: &Lent<'_>, set: &[u8], work: &mut [u16], q: Criterion) -> bool
     requires { QueryReady lent.now set.now work.old q }
     ensures { Decided (graph_in lent.now.table) set.now work.old work.new (settings_in q) result }

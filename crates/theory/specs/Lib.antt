@@ -1,5 +1,7 @@
 -- How code computes what the definitions of crate model say.
 pub mod Parts
 pub mod Search
+pub mod Bound
+pub mod Marks
 pub mod Replies
 pub mod Printed

@@ -12,7 +12,7 @@ part w a k = take k (drop a w)
 abbrev pub taken_ranks_at : ℕ → ℕ
 taken_ranks_at n = 0
 
--- part 1: the members of the set that is looked at, which in the walk are the taken vertices; past them those that the search adds
+-- part 1: the members of the set that is looked at, which in the walk are the taken vertices
 abbrev pub members_at : ℕ → ℕ
 members_at n = n
 
@@ -23,6 +23,10 @@ left_ranks_at n = 2 * n
 -- part 3: the candidates of the search for a larger clique
 abbrev pub candidates_at : ℕ → ℕ
 candidates_at n = 3 * n
+
+-- part 4: the candidates' marks
+abbrev pub marks_at : ℕ → ℕ
+marks_at n = 4 * n
 
 -- ---- what is left as it was
 

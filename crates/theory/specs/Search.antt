@@ -56,32 +56,16 @@ unfoldable pub joined_all : Graph → ℕ → List ℕ → Bool
 joined_all G v [] = true
 joined_all G v (u ∷ us) = let rest = joined_all G v us in G.joined v u && rest
 
--- No superset of k members within r further candidates is isolated: each of the k loses at most k + r - 1 of its degree to the set, and a further
--- member's outside count is at least 0. Under min nothing is said.
-unfoldable pub hopeless : ℕ → Factor → ℕ → ℕ → ℕ → ℕ → Bool
-hopeless zero c k r sum largest = false
-hopeless (suc zero) c k r sum largest = not (within c (k + r) (sum - k * (k + r - 1)))
-hopeless (suc (suc m)) c k r sum largest = not (within c 1 (largest - (k + r - 1)))
-
 -- Document 01, "Forms to follow in each place": the recursive search over common neighbours for a larger isolated clique, the candidates left falling. A candidate is added
--- where it is joined to those added so far, or passed over. k, sum, least and largest are of the members with those added. A branch is left where the test
--- says so, of k, the number of candidates left, sum and largest.
-unfoldable pub find : (ℕ → ℕ → ℕ → ℕ → Bool) → Graph → ℕ → Factor → List ℕ → ℕ → ℕ → ℕ → ℕ → List ℕ → Bool
-find leaves G notion c added k sum least largest [] = false
-find leaves G notion c added k sum least largest (v ∷ vs) =
+-- where it is joined to those added so far, or passed over. k, sum, least and largest are of the members with those added.
+unfoldable pub find_larger : Graph → ℕ → Factor → List ℕ → ℕ → ℕ → ℕ → ℕ → List ℕ → Bool
+find_larger G notion c added k sum least largest [] = false
+find_larger G notion c added k sum least largest (v ∷ vs) =
     let d = degree G v in
     let here = isolated_by notion c (k + 1) (sum + d) (min least d) (max largest d) in
-    let deeper = find leaves G notion c (added ++ (v ∷ [])) (k + 1) (sum + d) (min least d) (max largest d) vs in
-    let rest = find leaves G notion c added k sum least largest vs in
-    not (leaves k (length (v ∷ vs)) sum largest) && ((joined_all G v added && (here || deeper)) || rest)
-
--- the search that leaves no branch
-abbrev pub find_larger : Graph → ℕ → Factor → List ℕ → ℕ → ℕ → ℕ → ℕ → List ℕ → Bool
-find_larger = find (λ k r sum largest. false)
-
--- the search that leaves a hopeless branch
-abbrev pub find_cut : Graph → ℕ → Factor → List ℕ → ℕ → ℕ → ℕ → ℕ → List ℕ → Bool
-find_cut G notion c = find (hopeless notion c) G notion c
+    let deeper = find_larger G notion c (added ++ (v ∷ [])) (k + 1) (sum + d) (min least d) (max largest d) vs in
+    let rest = find_larger G notion c added k sum least largest vs in
+    (joined_all G v added && (here || deeper)) || rest
 
 -- v stands in the list
 abbrev pub Listed : ℕ → List ℕ → Type 0

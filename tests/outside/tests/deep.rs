@@ -54,8 +54,9 @@ fn lists_with_deep_sets() {
 #[derive(Clone, Copy, PartialEq, Debug)]
 enum Fault {
     Sound,
-    /// The search after the first way down is left out.
-    FirstWayAlone,
+    /// The candidates after the first are not searched without it.
+    FirstAlone,
+    /// A mark that stood there before the first candidate is added stays.
     NotCleared,
     NotBroughtBack,
     /// Those that dropped out one depth before are brought back too.
@@ -68,10 +69,10 @@ enum Fault {
 
 const FAULTS: [Fault; 8] = {
     use Fault::*;
-    [Sound, FirstWayAlone, NotCleared, NotBroughtBack, TooManyBack, MarkedAgain, DroppedTried, TooFewCounted]
+    [Sound, FirstAlone, NotCleared, NotBroughtBack, TooManyBack, MarkedAgain, DroppedTried, TooFewCounted]
 };
 
-/// A set query whose search goes and marks as the library's does, but for its fault.
+/// A set query that answers as the library's does, by the same steps, but for its fault.
 struct Faulty<'a> {
     request: &'a SetRequest,
     common: Vec<usize>,
@@ -88,7 +89,7 @@ impl Faulty<'_> {
         let m = common.len();
         let marks = request.work[4 * n..4 * n + m].to_vec();
         let mut search = Faulty { request, common, marks, low: 0, fault };
-        let beaten = if notion == 0 || kind == 1 { m > 0 } else { search.first_way(set) || search.beaten(set) };
+        let beaten = if notion == 0 || kind == 1 { m > 0 } else { search.beaten(set) };
         let yes = (search.isolated(set, 0) && !beaten).into();
         SetReply { answer: SetAnswer { refusal: 0, yes }, work: None }
     }
@@ -110,28 +111,23 @@ impl Faulty<'_> {
         left == 0 || !self.isolated(set, left) && !self.isolated(set, 1)
     }
 
-    fn first_way(&self, set: u64) -> bool {
-        let (n, mut way) = (self.request.n, set);
-        for (place, &v) in self.common.iter().enumerate() {
-            if self.hopeless(way, self.common.len() - place) {
-                return false;
-            }
-            if members(way).all(|u| self.request.table[u * n + v] == 1) {
-                way |= 1 << v;
-                if self.isolated(way, 0) {
-                    return true;
-                }
-            }
-        }
-        false
-    }
-
     fn beaten(&mut self, set: u64) -> bool {
-        self.low = self.common.iter().map(|&v| i64::from(self.request.degrees[v])).min().unwrap_or(0);
+        let m = self.common.len();
+        if self.hopeless(set, m) {
+            return false;
+        }
+        let with = set | 1 << self.common[0];
+        if self.isolated(with, 0) {
+            return true;
+        }
+        self.low = self.common[1..].iter().map(|&v| i64::from(self.request.degrees[v])).min().unwrap_or(0);
         if self.fault != Fault::NotCleared {
             self.marks.fill(0);
         }
-        self.fault != Fault::FirstWayAlone && self.search(set, 0, self.common.len())
+        if self.search_with(with, 0) {
+            return true;
+        }
+        self.fault != Fault::FirstAlone && !self.hopeless(set, m - 1) && self.search(set, 1, m - 1)
     }
 
     fn search(&mut self, set: u64, from: usize, mut left: usize) -> bool {
@@ -139,24 +135,26 @@ impl Faulty<'_> {
             if self.marks[place] != 0 && self.fault != Fault::DroppedTried {
                 continue;
             }
+            left = left.saturating_sub(1);
+            let with = set | 1 << self.common[place];
+            if self.isolated(with, 0) || !self.hopeless(with, left) && self.search_with(with, place) {
+                return true;
+            }
             if self.hopeless(set, left) {
                 return false;
             }
-            left = left.saturating_sub(1);
-            let with = set | 1 << self.common[place];
-            if self.isolated(with, 0) {
-                return true;
-            }
-            if self.hopeless(with, left) {
-                continue;
-            }
-            let depth = with.count_ones() as u16;
-            let kept = self.drop_out(place, depth);
-            if self.search(with, place + 1, kept) {
-                return true;
-            }
-            self.bring_back(place, depth);
         }
+        false
+    }
+
+    /// With the candidate at the place added, which is the last member of the set.
+    fn search_with(&mut self, with: u64, place: usize) -> bool {
+        let depth = with.count_ones() as u16;
+        let kept = self.drop_out(place, depth);
+        if !self.hopeless(with, kept) && self.search(with, place + 1, kept) {
+            return true;
+        }
+        self.bring_back(place, depth);
         false
     }
 

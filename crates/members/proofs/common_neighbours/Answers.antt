@@ -14,7 +14,7 @@ loop-v-init c = (omega arith, filled_none _ _ _ _ (passing-none _))
 pub loop-v-preserved : goal.loop-v-preserved
 loop-v-preserved c =
     let l = c.loop-v in
-    let same = same-members (kept-state l.invariant.1.kept c.requires.few) in
+    let same = same-members (kept-state l.invariant.1.kept (omega arith) c.requires.few) in
     let e = ap (joined_all (graph_in c.args.table.now) l.v) (sym same) ∙ sym c.joined_to_all.ensures in
     elim c.if-joined_to_all.branch [
       | then-joined_to_all w ↦ (omega arith, filled_same w.work-is w.m-is (filled_push _ _ _ l.invariant.1 _ _ (passing-hit _ _ (e ∙ w.if-joined_to_all.true)) (omega arith) (omega arith)))

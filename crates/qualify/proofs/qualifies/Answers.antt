@@ -30,11 +30,13 @@ pub beaten-requires-clause-parts : goal.beaten-requires-clause-parts
 beaten-requires-clause-parts c =
     parts c.requires c.if-s-n.false c.if-s-eq0.false c.if-s.false c.numbers-y.ensures c.candidates-m.ensures
 
+-- the question is posed whatever the criterion
 pub beaten-requires-clause-posed : goal.beaten-requires-clause-posed
 beaten-requires-clause-posed c =
-    posed c.requires c.if-s-n.false c.if-s-eq0.false c.if-s.false c.numbers-y.ensures c.candidates-m.ensures
+    let p = posed c.requires c.if-s-n.false c.if-s-eq0.false c.if-s.false c.numbers-y.ensures c.candidates-m.ensures in
+    record { set = p.set; room = p.room; loopless = p.loopless; symmetric = p.symmetric; clique = p.clique; tally = p.tally; candidates = p.candidates }
 
 pub returns : goal.returns
 returns c =
     judged_by c.requires c.if-s-n.false c.if-s-eq0.false c.if-s.false c.numbers-y.ensures c.candidates-m.ensures
-    (sym c.isolates.ensures ∙ c.if-not-isolates.false) c.beaten.ensures
+    (sym c.isolates.ensures ∙ c.if-not-isolates.false) (record { answer = c.beaten.ensures.answer; kept = c.beaten.ensures.kept })

@@ -7,7 +7,6 @@ use native.Mathlib.Numerals.{add-one}
 use native.Mathlib.Omega.{arith}
 use lib.ListN.{length, get_or, take, drop, set, length-take, length-drop, length-set}
 use lib.Seq.{drop-set-add, drop-set-lt, take-set-le, take-suc-set, get_or-take, get_or-drop, get_or-set_other, ext_get_or, take-take, take_at, take-add, drop_at, length-take-le}
-use mathlib.Core.Logic.{◌⊎◌, ⊎_elim}
 use Rattle.theory.specs.Parts.{part, SamePart, StateKept, Kept, Filled, CandidatesIn}
 
 pub part_length : (w : List ℕ) (a k : ℕ) → a + k ≤ length w → length (part w a k) ≡ k
@@ -73,25 +72,25 @@ kept_set a b w₀ w k i x h l =
       length-kept = simp length-set k.length-kept;
     }
 
+-- within wider bounds, and where two functions wrote one after the other
+pub kept_wider : {a b : ℕ} {w₀ w : List ℕ} → Kept a b w₀ w → (c d : ℕ) → c ≤ a → b ≤ d → Kept c d w₀ w
+kept_wider k c d h l = record { below = λ e g. k.below e (omega arith); above = λ e g. k.above e (omega arith); length-kept = k.length-kept }
+
+pub kept_then : {a b : ℕ} {w₀ w w₁ : List ℕ} → Kept a b w₀ w → Kept a b w w₁ → Kept a b w₀ w₁
+kept_then f g =
+    record {
+      below = λ e h. g.below e h ∙ f.below e h;
+      above = λ e h. g.above e h ∙ f.above e h;
+      length-kept = g.length-kept ∙ f.length-kept;
+    }
+
 -- a part below what was written
 pub part-below : (a b : ℕ) (w₀ w : List ℕ) → Kept a b w₀ w → (from k : ℕ) → from + k ≤ a → part w from k ≡ part w₀ from k
 part-below a b w₀ w kept from k h = part_same w w₀ from k kept.length-kept (λ i l. kept.below (from + i) (omega arith))
 
 -- ---- the state's entries are as they were
 
--- where nothing was written, where an entry that is none of them was, and where two functions wrote one after the other
-pub state-none : {n k : ℕ} {w : List ℕ} → StateKept n k w w
-state-none = record { taken_ranks_lem = λ i h. refl; members = λ i h. refl; left_ranks_lem = λ i h. refl; length-kept = refl }
-
-pub state-set : {n k : ℕ} {w₀ w : List ℕ} → StateKept n k w₀ w → k ≤ n → (e x : ℕ) → n + k ≤ e → (e < 2 * n) ⊎ (3 * n ≤ e) → StateKept n k w₀ (set w e x)
-state-set {n} {k} {w₀} {w} a h e x l f =
-    record {
-      taken_ranks_lem = λ i g. get_or-set_other w e (0 + i) x 0 (λ q. omega arith) ∙ a.taken_ranks_lem i g;
-      members = λ i g. get_or-set_other w e (n + i) x 0 (λ q. omega arith) ∙ a.members i g;
-      left_ranks_lem = λ i g. get_or-set_other w e (2 * n + i) x 0 (λ q. ⊎_elim (λ m. omega arith) (λ m. omega arith) f) ∙ a.left_ranks_lem i g;
-      length-kept = simp length-set a.length-kept;
-    }
-
+-- where two functions wrote one after the other
 pub state_then : {n k l : ℕ} {w₀ w w₁ : List ℕ} → StateKept n k w₀ w → StateKept n l w w₁ → k ≤ l → StateKept n k w₀ w₁
 state_then a b g =
     record {
@@ -99,6 +98,16 @@ state_then a b g =
       members = λ i h. b.members i (omega arith) ∙ a.members i h;
       left_ranks_lem = λ i h. b.left_ranks_lem i h ∙ a.left_ranks_lem i h;
       length-kept = b.length-kept ∙ a.length-kept;
+    }
+
+-- where nothing before part 3 was written the state's entries are as they were
+pub kept-state : {n k a b : ℕ} {w₀ w : List ℕ} → Kept a b w₀ w → 3 * n ≤ a → k ≤ n → StateKept n k w₀ w
+kept-state {n} kept g h =
+    record {
+      taken_ranks_lem = λ i l. kept.below (0 + i) (omega arith);
+      members = λ i l. kept.below (n + i) (omega arith);
+      left_ranks_lem = λ i l. kept.below (2 * n + i) (omega arith);
+      length-kept = kept.length-kept;
     }
 
 -- the k members, as a list
@@ -133,16 +142,6 @@ module _ (a b : ℕ) (w₀ : List ℕ) where
     pub filled_pass : (m : List ℕ) → m ≡ l → Filled a b m w₀ w k
     filled_pass m e = record { listed = s.listed ∙ sym e; kept = s.kept }
 
--- where only part 3 was written the state's entries are as they were
-pub kept-state : {n k : ℕ} {w₀ w : List ℕ} → Kept (3 * n) (3 * n + n) w₀ w → k ≤ n → StateKept n k w₀ w
-kept-state {n} kept h =
-    record {
-      taken_ranks_lem = λ i l. kept.below (0 + i) (omega arith);
-      members = λ i l. kept.below (n + i) (omega arith);
-      left_ranks_lem = λ i l. kept.below (2 * n + i) (omega arith);
-      length-kept = kept.length-kept;
-    }
-
--- so a list that was written there is one of candidates
+-- a list that was written in part 3 is one of candidates
 pub filled_candidates : {n k m : ℕ} {l w₀ w : List ℕ} → Filled (3 * n) (3 * n + n) l w₀ w m → k ≤ n → m ≤ n → CandidatesIn n k l w₀ w m
-filled_candidates s h f = record { listed = s.listed; few = f; kept = kept-state s.kept h }
+filled_candidates s h f = record { listed = s.listed; few = f; kept = kept-state s.kept (omega arith) h }

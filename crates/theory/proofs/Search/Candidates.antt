@@ -5,10 +5,8 @@ use mathlib.Core.Path.{◌≡◌, refl, sym, ap, ◌∙◌}
 use mathlib.Core.Bool.{Bool, true, false, ◌&&◌, and-true, true≢false}
 use mathlib.Core.List.{List, [], ◌∷◌, ◌++◌}
 use mathlib.Core.Logic.{inr, ⊎_elim}
-use native.Mathlib.Numerals.{add-one}
 use native.Mathlib.Omega.{arith}
-use lib.ListN.{length, get_or, take}
-use lib.Seq.{take-suc}
+use lib.ListN.{length, get_or}
 use Rattle.model.specs.Graph.{Graph, degree}
 use Rattle.model.specs.Groups.{VertexSet, with_vertex}
 use Rattle.model.specs.Meaning.{Clique, Loopless, Symmetric}
@@ -26,20 +24,6 @@ joined_all_push G w (u ∷ us) v = go (G.joined w u) (joined_all_push G w us v)
     go : (b : Bool) → joined_all G w (us ++ (v ∷ [])) ≡ (joined_all G w us && G.joined w v) → (b && joined_all G w (us ++ (v ∷ []))) ≡ (b && joined_all G w us && G.joined w v)
     go true e = e
     go false e = refl
-
--- what is joined to a list, place by place
-module _ (G : Graph) (v : ℕ) (us : List ℕ) where
-  -- of no vertices, a vertex is joined to each
-  pub joined-none : joined_all G v (take 0 us) ≡ true
-  unfolding joined_all
-  joined-none = refl
-
-  -- one vertex more is one test more
-  pub joined-more : (j : ℕ) → j < length us → joined_all G v (take (j + 1) us) ≡ (joined_all G v (take j us) && G.joined v (get_or us j 0))
-  joined-more j h =
-      ap (λ (m : ℕ). joined_all G v (take m us)) (add-one j)
-      ∙ ap (λ (l : List ℕ). joined_all G v l) (take-suc us j 0 h)
-      ∙ joined_all_push G v (take j us) (get_or us j 0)
 
 -- `joined_all` says that the vertex is joined to each in the list
 pub joined_test : (G : Graph) (v : ℕ) (us : List ℕ) → Test (joined_all G v us) ((j : ℕ) → j < length us → G.joined v (get_or us j 0) ≡ true)

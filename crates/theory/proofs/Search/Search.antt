@@ -9,7 +9,7 @@ use native.Mathlib.Omega.{arith}
 use Rattle.model.specs.Graph.{Graph, degree}
 use Rattle.model.specs.Groups.{Factor, VertexSet, isolated, larger, with_vertex, isolated_clique, some_larger, rival}
 use Rattle.model.specs.Meaning.{In, Clique, Isolated, IsolatedClique, Larger, Loopless, Symmetric}
-use Rattle.theory.specs.Search.{JoinsAll, Tally, isolated_by, joined_all, find, find_larger, Listed, Candidates}
+use Rattle.theory.specs.Search.{JoinsAll, Tally, isolated_by, joined_all, find_larger, Listed, Candidates}
 use Rattle.theory.proofs.Basics.Tests.{Test, test_agree, test_and, test_or, test_self, passes_or_fails}
 use Rattle.theory.proofs.Graph.Meaning.{isolated_test, larger_test, isolated-same, rivals, rivals_test}
 use Rattle.theory.proofs.Graph.Cliques.{with_test, same-vertex, joins_new, joins-larger, further-joins, further-common}
@@ -29,7 +29,7 @@ Finds G notion c vs = (T : VertexSet) (added : List ℕ) (k sum least largest : 
     → Test (find_larger G notion c added k sum least largest vs) (Beyond G notion c T vs)
 
 finds_none : (G : Graph) (notion : ℕ) (c : Factor) → Finds G notion c []
-unfolding Finds find
+unfolding Finds find_larger
 finds_none G notion c T added k sum least largest r = (
   λ e. absurd (false≢true e),
   λ b. absurd (none b (b.listed b.exceeds.further.0 b.exceeds.further.1)),
@@ -192,7 +192,7 @@ module _ (G : Graph) (loopless : Loopless G) (symmetric : Symmetric G) (notion :
             inl (joins.1 j, add e j (passes_or_fails (larger G b.set more)))
 
     finds_step : Test (find_larger G notion c added k sum least largest (v ∷ vs)) (Beyond G notion c T (v ∷ vs))
-    unfolding find here deeper
+    unfolding find_larger here deeper
     finds_step = (λ e. finds_there (ways.0 e), λ b. ways.1 (finds_back b))
       where
         ways : Test ((joined_all G v added && (here || deeper)) || find_larger G notion c added k sum least largest vs)
