@@ -43,9 +43,11 @@
  *     isolated_part(table, n * n, degrees, n, n, 7, 8);
  *     memset(position, 0, n);
  *     do {
- *         page = isolated_page(table, n * n, degrees, n, position, n, output, n + 1, work, ISOLATED_WORK(n), n,
- *                              ISOLATED_MAX, ISOLATED_MAXIMAL_ISOLATED, 2, 1000000);
- *         // read output[0] to output[page.used - 1]
+ *         page = isolated_page(table, n * n, degrees, n, position, n, output, ISOLATED_RECORD(n), work,
+ *                              ISOLATED_WORK(n), n, ISOLATED_MAX, ISOLATED_MAXIMAL_ISOLATED, 2, 1000000);
+ *         for (const uint16_t *record = output; record < output + page.used; record += ISOLATED_RECORD(record[0])) {
+ *             // record[0] vertices, from record[3] on; isolated_outgoing_edges(record) of their edges lead outside
+ *         }
  *     } while (page.refusal == 0 && page.stop != ISOLATED_STOP_FINISHED);
  *   The first three tell a refusal too, which this leaves out. A page moves on by ranks, and an edit changes degrees
  *   and so ranks: a walk that was begun before an edit starts again from a fresh position. A stale position goes
@@ -59,7 +61,8 @@
  *
  * The groups
  *   A clique is a non-empty set of pairwise joined vertices. A member's outside count is the number of its
- *   neighbours that are not in the set. A clique of k members is isolated with factor c when
+ *   neighbours that are not in the set; the outside counts of all members add up to the number of outgoing edges, those
+ *   between a member and a vertex outside. A clique of k members is isolated with factor c when
  *     ISOLATED_MIN  some member has outside count less than c,
  *     ISOLATED_AVG  the outside counts sum to less than c * k,
  *     ISOLATED_MAX  every member has outside count less than c.
@@ -103,11 +106,14 @@
 extern "C" {
 #endif
 
-/* The version of this header and of the archive that belongs to it, by numbers and as text. */
+/* The version of this header and of the archive that belongs to it, by numbers and as text. Before 0.3.0 a record was
+   the size and the vertices alone: what was compiled with an earlier header misreads the output of this archive. And
+   where it lends the n + 1 entries that sufficed then, a group of n - 1 or n vertices never fits, and it may ask for
+   ever. */
 #define ISOLATED_VERSION_MAJOR 0
-#define ISOLATED_VERSION_MINOR 2
+#define ISOLATED_VERSION_MINOR 3
 #define ISOLATED_VERSION_PATCH 0
-#define ISOLATED_VERSION "0.2.0"
+#define ISOLATED_VERSION "0.3.0"
 
 /* The most vertices of a graph, and the largest factor. */
 #define ISOLATED_VERTICES 1024
@@ -115,6 +121,10 @@ extern "C" {
 
 /* The entries that a work slice needs for n vertices. */
 #define ISOLATED_WORK(n) (8 * (size_t)(n))
+
+/* The entries of the record of a group of k vertices. An output of ISOLATED_RECORD(n) entries holds any group of a
+   graph of n vertices. */
+#define ISOLATED_RECORD(k) ((size_t)(k) + 3)
 
 /* The bytes of stack that no call exceeds: a thread that calls needs them beside what it uses itself. */
 #define ISOLATED_STACK 196608
@@ -137,7 +147,7 @@ extern "C" {
 #define ISOLATED_STOP_REFUSED 0
 #define ISOLATED_STOP_FINISHED 1 /* the walk is over: the whole list is out */
 #define ISOLATED_STOP_SPENT 2    /* as many steps as the budget allows were made */
-#define ISOLATED_STOP_FULL 3     /* the next group does not fit into the unused output */
+#define ISOLATED_STOP_FULL 3     /* the next group does not fit into the unused output: see isolated_page() */
 
 /* Accepted. */
 #define ISOLATED_REFUSED_NOT 0
@@ -232,6 +242,18 @@ static inline const char *isolated_refusal_text(uint32_t refusal) {
     return "no refusal has this number";
 }
 
+/*
+ * isolated_outgoing_edges(): how many edges lead from a group's members to vertices outside.
+ *
+ *   record  where the record of the group begins in an output of isolated_page(). Its entries 1 and 2 are read, and
+ *           nothing else.
+ *
+ * Returns entry 1 * 65,536 + entry 2: entry 1 is the upper half of the number, entry 2 the lower.
+ */
+static inline uint32_t isolated_outgoing_edges(const uint16_t *record) {
+    return (uint32_t)record[1] * 65536u + record[2];
+}
+
 /* What isolated_page() returns. Where refusal is not 0 all other numbers are 0. */
 typedef struct isolated_page_answer {
     uint32_t refusal; /* 0, or one of 1 to 10, 21 to 23 and 42 */
@@ -239,7 +261,7 @@ typedef struct isolated_page_answer {
     uint32_t groups;  /* groups written by this call */
     uint32_t steps;   /* steps of the walk made by this call, at most budget */
     size_t used;      /* entries of output that this call used */
-    size_t wanted;    /* at ISOLATED_STOP_FULL the entries that the next group needs, else 0 */
+    size_t wanted;    /* at ISOLATED_STOP_FULL the entries of the next group's record, its size + 3, else 0 */
 } isolated_page_answer;
 
 /* What isolated_set_query() returns. Where refusal is not 0, yes is 0. */
@@ -276,9 +298,20 @@ typedef struct isolated_text_answer {
  *   degrees, degrees_length    its degrees, as isolated_degrees() counts them; read only. degrees_length is n.
  *   position, position_length  n bytes, one a rank. Read, and set to the last position reached. All 0 is the
  *                              start, all 2 the end (with n = 0 the start is the end).
- *   output, output_length      any length. From entry 0 on, each group as its size and then its vertices in rank
- *                              order; entries past `used` keep their contents. A group is written whole or not at
- *                              all. With n + 1 entries and a budget of 1 or more, an unfinished walk moves on.
+ *   output, output_length      any length. From entry 0 on, the record of each group, one right after the other;
+ *                              entries past `used` keep their contents. The record of a group of k vertices with E
+ *                              outgoing edges has ISOLATED_RECORD(k) entries, which are k + 3:
+ *                                entry 0     k, its size
+ *                                entry 1     E / 65,536, rounded down: the upper half of E
+ *                                entry 2     E % 65,536: the lower half of E
+ *                                entry 3 on  its k vertices in rank order
+ *                              So E is entry 1 * 65,536 + entry 2, as isolated_outgoing_edges() puts it together, and
+ *                              below 262,144. A record is written whole or not at all. With ISOLATED_RECORD(n)
+ *                              entries, which are n + 3, and a budget of 1 or more, an unfinished walk moves on.
+ *                              Where stop is ISOLATED_STOP_FULL, read the used entries and call again with `wanted`
+ *                              entries of output or more: each call begins with an empty output, so the next group
+ *                              needs so many in all. With fewer, a call with a budget of 1 or more makes no step and
+ *                              stops so again.
  *   work, work_length          at least ISOLATED_WORK(n) entries with any contents. Its contents after an accepted
  *                              call are open.
  *   n                          the vertices.

@@ -9,7 +9,7 @@
 //! or the file are refused, 2 where the file was not read or the list is cut; an `end` line is written only in the first
 //! of these cases.
 
-use isolated::{page, work_entries, Graph, Kind, Notion, Settings, Stop};
+use isolated::{page, records, work_entries, Graph, Kind, Notion, Settings, Stop};
 use std::ffi::OsString;
 use std::io::{self, ErrorKind, IsTerminal, Write};
 use std::path::Path;
@@ -89,15 +89,13 @@ fn list(graph: &Graph, settings: Settings) -> Result<(), Failure> {
     }
 }
 
-/// The records of a page, one line each: a record is a size and then so many vertices.
-fn lines(mut records: &[u16]) -> String {
+/// The groups of a page, one line each.
+fn lines(output: &[u16]) -> String {
     let mut lines = String::new();
-    while let [size, rest @ ..] = records {
-        let (group, after) = rest.split_at(usize::from(*size));
-        let vertices: Vec<String> = group.iter().map(|vertex| (vertex + 1).to_string()).collect();
+    for group in records(output) {
+        let vertices: Vec<String> = group.vertices.iter().map(|vertex| (vertex + 1).to_string()).collect();
         lines.push_str(&vertices.join(" "));
         lines.push('\n');
-        records = after;
     }
     lines
 }

@@ -24,7 +24,7 @@ use std::fmt;
 /// assert_eq!(graph.groups(settings)?.count(), 0);
 ///
 /// graph.part(3, 2)?;
-/// let groups: Vec<Vec<u16>> = graph.groups(settings)?.collect();
+/// let groups: Vec<Vec<u16>> = graph.groups(settings)?.map(|group| group.vertices).collect();
 /// assert_eq!(groups, [vec![3], vec![0, 1, 2]]);
 /// assert!(graph.asks(&[0, 1, 2], settings)?);
 /// # Ok(())
@@ -200,13 +200,13 @@ impl Graph {
     /// Who wants to edit by what is listed collects first:
     ///
     /// ```
-    /// # use isolated::{Graph, Kind, Notion, Settings};
+    /// # use isolated::{Graph, Group, Kind, Notion, Settings};
     /// # fn main() -> Result<(), isolated::Refusal> {
     /// # let settings = Settings::new(Notion::Max, Kind::MaximalIsolated, 2);
     /// let mut graph = Graph::new(4)?;
-    /// let groups: Vec<Vec<u16>> = graph.groups(settings)?.collect();
+    /// let groups: Vec<Group> = graph.groups(settings)?.collect();
     /// for pair in groups.windows(2) {
-    ///     graph.join(pair[0][0].into(), pair[1][0].into())?;
+    ///     graph.join(pair[0].vertices[0].into(), pair[1].vertices[0].into())?;
     /// }
     /// assert_eq!(graph.degrees(), [1, 2, 2, 1]);
     /// # Ok(())

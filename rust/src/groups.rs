@@ -1,6 +1,7 @@
 //! All groups of a graph, one after the other.
 
-use crate::{page, work_entries, Page, Refusal, Settings, Stop, VERTICES};
+use crate::group::first_record;
+use crate::{page, record_entries, work_entries, Group, Page, Refusal, Settings, Stop, VERTICES};
 use std::fmt;
 use std::iter::FusedIterator;
 
@@ -20,19 +21,20 @@ pub struct Room {
 }
 
 impl Room {
-    /// A room for graphs of up to `n` vertices: n bytes, at least n + 1 entries of output and 8 × n entries of work. No
-    /// graph has more than [`VERTICES`], so a larger `n` counts as that.
+    /// A room for graphs of up to `n` vertices: n bytes, at least n + 3 entries of output and 8 × n entries of work.
+    /// No graph has more than [`VERTICES`], so a larger `n` counts as that.
     #[must_use]
     pub fn new(n: usize) -> Room {
         Room::with_output(n, 4096)
     }
 
-    /// A room with an output of this many entries, or of n + 1 where this is more: any group fits then. More than 2^24
+    /// A room with an output of this many entries, or of n + 3 where this is more: any group fits then. More than 2^24
     /// entries, which are 32 MiB, count as that.
     #[must_use]
     pub fn with_output(n: usize, entries: usize) -> Room {
         let n = n.min(VERTICES);
-        Room { position: vec![0; n], output: vec![0; entries.clamp(n + 1, OUTPUT)], work: vec![0; work_entries(n)] }
+        let entries = entries.clamp(record_entries(n), OUTPUT);
+        Room { position: vec![0; n], output: vec![0; entries], work: vec![0; work_entries(n)] }
     }
 
     /// The most vertices of a graph that it serves.
@@ -52,21 +54,22 @@ impl fmt::Debug for Room {
     }
 }
 
-/// All groups of a graph in the order of document 01, each as its vertices in rank order.
+/// All groups of a graph in the order of document 01, each as a [`Group`]: its vertices in rank order, and the number
+/// of its outgoing edges.
 ///
 /// It pages underneath and keeps no list: what it needs is in its [`Room`], which it borrows, or owns where
 /// [`crate::Graph::groups`] made it. The steps made so far are [`Groups::steps`]; after the last group this is the length
 /// of the walk. It borrows the graph, so that nothing can change it in the middle of the walk.
 ///
 /// ```
-/// use isolated::{Groups, Kind, Notion, Refusal, Room, Settings};
+/// use isolated::{Group, Groups, Kind, Notion, Refusal, Room, Settings};
 ///
 /// # fn main() -> Result<(), Refusal> {
 /// let (triangle, degrees) = ([0, 1, 1, 1, 0, 1, 1, 1, 0], [2, 2, 2]);
 /// let mut room = Room::new(3);
 /// let settings = Settings::new(Notion::Avg, Kind::IsolatedMaximal, 1);
 /// let mut groups = Groups::new(&triangle, &degrees, 3, settings, &mut room)?;
-/// assert_eq!(groups.next(), Some(vec![0, 1, 2]));
+/// assert_eq!(groups.next(), Some(Group { vertices: vec![0, 1, 2], outgoing_edges: 0 }));
 /// assert_eq!(groups.next(), None);
 /// assert_eq!(groups.steps(), 10);
 ///
@@ -157,20 +160,19 @@ impl<'a> Groups<'a> {
 }
 
 impl Iterator for Groups<'_> {
-    type Item = Vec<u16>;
+    type Item = Group;
 
-    fn next(&mut self) -> Option<Vec<u16>> {
+    fn next(&mut self) -> Option<Group> {
         while self.read == self.used {
             if self.finished {
                 return None;
             }
             self.turn(BUDGET).expect("the walk's own position is accepted");
         }
-        let output = &self.room.room().output;
-        let size = usize::from(output[self.read]);
-        let first = self.read + 1;
-        self.read = first + size;
-        Some(output[first..self.read].to_vec())
+        let entries = &self.room.room().output[self.read..self.used];
+        let (group, rest) = first_record(entries).expect("a page writes whole records");
+        self.read = self.used - rest.len();
+        Some(group)
     }
 }
 

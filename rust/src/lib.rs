@@ -6,7 +6,7 @@
 //! A [`Graph`] is kept up to date by edits, and lists its groups. The claw has a centre, vertex 0, joined to three others:
 //!
 //! ```
-//! use isolated::{Graph, Kind, Notion, Settings};
+//! use isolated::{Graph, Group, Kind, Notion, Settings};
 //!
 //! # fn main() -> Result<(), isolated::Refusal> {
 //! let mut claw = Graph::new(4)?;
@@ -14,8 +14,9 @@
 //!     claw.join(0, leaf)?;
 //! }
 //! let settings = Settings::new(Notion::Max, Kind::MaximalIsolated, 2);
-//! let groups: Vec<Vec<u16>> = claw.groups(settings)?.collect();
-//! assert_eq!(groups, [[1], [2], [3]]);
+//! let groups: Vec<Group> = claw.groups(settings)?.collect();
+//! let outer = |leaf| Group { vertices: vec![leaf], outgoing_edges: 1 };
+//! assert_eq!(groups, [outer(1), outer(2), outer(3)]);
 //! # Ok(())
 //! # }
 //! ```
@@ -23,14 +24,16 @@
 //! Below it stand the six calls of the library, which hide nothing and own nothing: every call takes the slices it works
 //! on, and what it returns is an enum or a plain struct. A graph of `n` vertices is there a table of `n * n` bytes, row by
 //! row, 1 where two vertices are joined, and beside it the list of its `n` degrees. [`page`] lists as many groups at a
-//! time as its caller likes, and [`Groups`] all of them; [`set_query`] asks about one set; [`join`] and [`part`] change a
-//! pair; [`fill_degrees`] counts the degrees; [`read_text`] reads a graph. [`raw`] declares the calls as they are exported.
-//! How to build, and what is proved and what is not, is told in `rust/README.md`.
+//! time as its caller likes, for [`records`] to read, and [`Groups`] all of them; [`set_query`] asks about one set;
+//! [`join`] and [`part`] change a pair; [`fill_degrees`] counts the degrees; [`read_text`] reads a graph. [`raw`]
+//! declares the calls as they are exported. How to build, and what is proved and what is not, is told in
+//! `rust/README.md`.
 
 #![warn(missing_docs)]
 
 mod edit;
 mod graph;
+mod group;
 mod groups;
 mod page;
 pub mod raw;
@@ -41,6 +44,7 @@ mod text;
 
 pub use edit::{fill_degrees, join, part};
 pub use graph::Graph;
+pub use group::{record_entries, records, Group, Records};
 pub use groups::{Groups, Room};
 pub use page::{page, work_entries, Page, Stop, VERTICES};
 pub use refusal::Refusal;

@@ -13,9 +13,11 @@ pub enum Stop {
     Finished,
     /// As many steps as the budget allows were made.
     Spent,
-    /// The next group does not fit into the unused output.
+    /// The next group does not fit into the unused output. Read the used entries and call again with an output of
+    /// `wanted` entries or more: the next page begins with an empty output. With fewer, a page with a budget of 1 or
+    /// more makes no step and stops full again.
     Full {
-        /// The entries that this group wants: its size and one more.
+        /// The entries of this group's record: its size and three more.
         wanted: usize,
     },
 }
@@ -42,11 +44,16 @@ pub const fn work_entries(n: usize) -> usize {
 /// Goes on with the walk over a graph and writes the groups it meets.
 ///
 /// `table` has n × n bytes, and `degrees` the degree of each vertex, as [`crate::fill_degrees`] counts them. `position`
-/// has n bytes, one a rank: all 0 at the start; hand on what the last call left. `output`, of any length, gets each
-/// group as its size and then its vertices in rank order, right from entry 0; entries past `used` keep their contents.
+/// has n bytes, one a rank: all 0 at the start; hand on what the last call left. `output`, of any length, gets
+/// the record of each group, right from entry 0, for [`crate::records`] to read: its size, its outgoing edges divided
+/// by 65,536, the remainder, and then its vertices in rank order. Entries past `used` keep their contents.
 /// `work` has at least [`work_entries`] entries; its contents do not matter and are open afterwards. `budget` is the most
 /// steps to make. Each call tests the whole table anew. Where an edit leaves another table for a later page, nothing is
 /// said of the list that was begun before it: start again from a position of zeros.
+///
+/// Since 0.3.0 a record holds the outgoing edges, and this call kept its signature: code from before that reads the
+/// output by hand or lends n + 1 entries builds without a warning and is wrong, and it may never end, so lend
+/// [`crate::record_entries`] of n and read them by [`crate::records`].
 ///
 /// ```
 /// use isolated::{page, Kind, Notion, Settings, Stop};
@@ -54,15 +61,15 @@ pub const fn work_entries(n: usize) -> usize {
 /// # fn main() -> Result<(), isolated::Refusal> {
 /// let (path, degrees) = ([0, 1, 0, 1, 0, 1, 0, 1, 0], [1, 2, 1]);
 /// let settings = Settings::new(Notion::Max, Kind::MaximalIsolated, 2);
-/// let (mut position, mut output, mut work) = ([0; 3], [0; 4], [0; 24]);
+/// let (mut position, mut output, mut work) = ([0; 3], [0; 6], [0; 24]);
 ///
 /// let first = page(&path, &degrees, &mut position, &mut output, &mut work, 3, settings, 1000)?;
-/// assert_eq!(first.stop, Stop::Full { wanted: 3 });
-/// assert_eq!(output[..first.used], [2, 0, 1]);
+/// assert_eq!(first.stop, Stop::Full { wanted: 5 });
+/// assert_eq!(output[..first.used], [2, 0, 1, 0, 1]);
 ///
 /// let second = page(&path, &degrees, &mut position, &mut output, &mut work, 3, settings, 1000)?;
 /// assert_eq!(second.stop, Stop::Finished);
-/// assert_eq!(output[..second.used], [2, 2, 1]);
+/// assert_eq!(output[..second.used], [2, 0, 1, 2, 1]);
 /// # Ok(())
 /// # }
 /// ```

@@ -20,7 +20,7 @@ pub struct PageAnswer {
     pub steps: u32,
     /// Entries of the output used.
     pub used: usize,
-    /// Where the page stopped full the entries that the next group wants, else 0.
+    /// Where the page stopped full the entries of the next group's record, else 0.
     pub wanted: usize,
 }
 

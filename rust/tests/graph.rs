@@ -1,7 +1,7 @@
 //! The graph that is kept: its edits, its lists and what it refuses.
 
-use isolated::{fill_degrees, page, set_query, work_entries};
-use isolated::{Graph, Groups, Kind, Notion, Refusal, Room, Settings, Stop, TextRefusal, VERTICES};
+use isolated::{fill_degrees, page, records, set_query, work_entries};
+use isolated::{Graph, Group, Groups, Kind, Notion, Refusal, Room, Settings, Stop, TextRefusal, VERTICES};
 
 const MAX: Settings = Settings::new(Notion::Max, Kind::MaximalIsolated, 2);
 
@@ -19,8 +19,16 @@ fn of_edges(n: usize, edges: &[(usize, usize)]) -> Graph {
     graph
 }
 
+/// The vertices of each group. Its outgoing edges are those that the graph tells.
 fn listed(graph: &Graph, settings: Settings) -> Vec<Vec<u16>> {
-    graph.groups(settings).unwrap().collect()
+    let vertices = |group: Group| {
+        let is_outside = |v: usize| group.vertices.iter().all(|&member| usize::from(member) != v);
+        let outside = |&member: &u16| graph.neighbours(member.into()).filter(|&v| is_outside(v)).count();
+        let counted: usize = group.vertices.iter().map(outside).sum();
+        assert_eq!(u32::try_from(counted), Ok(group.outgoing_edges), "{group:?} with {settings}");
+        group.vertices
+    };
+    graph.groups(settings).unwrap().map(vertices).collect()
 }
 
 /// What it tells of itself is what its table holds.
@@ -130,7 +138,7 @@ fn three_ways_to_one_list() {
     let mut room = Room::new(n);
     for settings in every_settings() {
         let mut groups = graph.groups(settings).unwrap();
-        let list: Vec<Vec<u16>> = groups.by_ref().collect();
+        let list: Vec<Group> = groups.by_ref().collect();
         let mut lent = Groups::new(table, degrees, n, settings, &mut room).unwrap();
         assert_eq!(lent.by_ref().collect::<Vec<_>>(), list, "{settings}");
         assert_eq!(lent.steps(), groups.steps(), "{settings}");
@@ -138,8 +146,7 @@ fn three_ways_to_one_list() {
         let (mut position, mut output, mut work) = (vec![0; n], vec![0; 100], vec![0; work_entries(n)]);
         let done = page(table, degrees, &mut position, &mut output, &mut work, n, settings, u32::MAX).unwrap();
         assert_eq!((done.stop, u64::from(done.steps)), (Stop::Finished, groups.steps()), "{settings}");
-        let record = |group: &Vec<u16>| [&[u16::try_from(group.len()).unwrap()], &group[..]].concat();
-        assert_eq!(output[..done.used], list.iter().flat_map(record).collect::<Vec<_>>(), "{settings}");
+        assert!(records(&output[..done.used]).eq(list), "{settings}");
     }
 }
 

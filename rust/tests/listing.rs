@@ -1,6 +1,6 @@
 //! The iterator over rooms of several sizes.
 
-use isolated::{page, set_query, work_entries, Groups, Kind, Notion, Refusal, Room, Settings, FACTOR, VERTICES};
+use isolated::{page, set_query, work_entries, Group, Groups, Kind, Notion, Refusal, Room, Settings, FACTOR, VERTICES};
 use std::iter::FusedIterator;
 
 /// The table of a ring of n vertices, each joined to the next, and its degrees; of less than three no two are joined.
@@ -17,7 +17,7 @@ fn ring(n: usize) -> (Vec<u8>, Vec<u16>) {
     (table, degrees)
 }
 
-fn all_groups(graph: &(Vec<u8>, Vec<u16>), n: usize, settings: Settings, room: &mut Room) -> (Vec<Vec<u16>>, u64) {
+fn all_groups(graph: &(Vec<u8>, Vec<u16>), n: usize, settings: Settings, room: &mut Room) -> (Vec<Group>, u64) {
     let mut groups = Groups::new(&graph.0, &graph.1, n, settings, room).unwrap();
     let list = groups.by_ref().collect();
     (list, groups.steps())
@@ -43,9 +43,10 @@ fn a_room_serves_several_listings() {
     let mut room = Room::new(5);
     let settings = Settings::new(Notion::Max, Kind::MaximalIsolated, 2);
     let mut begun = Groups::new(&table, &degrees, 5, settings, &mut room).unwrap();
-    assert_eq!(begun.next(), Some(vec![0, 1]));
-    let again: Vec<Vec<u16>> = Groups::new(&table, &degrees, 5, settings, &mut room).unwrap().collect();
-    assert_eq!(again, [[0, 1], [0, 4], [1, 2], [2, 3], [3, 4]]);
+    let pair = |u, v| Group { vertices: vec![u, v], outgoing_edges: 2 };
+    assert_eq!(begun.next(), Some(pair(0, 1)));
+    let again: Vec<Group> = Groups::new(&table, &degrees, 5, settings, &mut room).unwrap().collect();
+    assert_eq!(again, [pair(0, 1), pair(0, 4), pair(1, 2), pair(2, 3), pair(3, 4)]);
     assert_eq!(Groups::new(&table, &degrees, 4, settings, &mut room).err(), Some(Refusal::TableLength));
 }
 
@@ -118,7 +119,7 @@ fn the_shortest_work_slice() {
 
 #[test]
 fn no_vertices_have_no_groups() {
-    fn stays_over(mut groups: impl FusedIterator<Item = Vec<u16>>) {
+    fn stays_over(mut groups: impl FusedIterator<Item = Group>) {
         assert_eq!(groups.next(), None);
         assert_eq!(groups.next(), None);
     }

@@ -1,4 +1,4 @@
-/* Lists the groups of the claw, page by page, and asks about three sets. C99, and C++ as well. */
+/* Lists the groups of the claw with their outgoing edges, page by page, and asks about three sets. C99, and C++ too. */
 #include "isolated.h"
 
 #include <stdio.h>
@@ -10,22 +10,21 @@ static const char text[] = "c the claw\np edge 4 3\ne 1 2\ne 1 3\ne 1 4\n";
 
 static void list(const uint8_t *table, const uint16_t *degrees, size_t n, uint32_t notion, uint32_t kind, uint32_t c) {
     uint8_t position[VERTICES] = {0};
-    uint16_t output[VERTICES + 1];
+    uint16_t output[ISOLATED_RECORD(VERTICES)];
     uint16_t work[ISOLATED_WORK(VERTICES)];
     uint32_t groups = 0, steps = 0;
     isolated_page_answer page;
     printf("notion %u kind %u c %u\n", notion, kind, c);
     do {
-        page = isolated_page(table, n * n, degrees, n, position, n, output, VERTICES + 1, work, ISOLATED_WORK(VERTICES),
-                             n, notion, kind, c, 5);
+        page = isolated_page(table, n * n, degrees, n, position, n, output, ISOLATED_RECORD(VERTICES), work,
+                             ISOLATED_WORK(VERTICES), n, notion, kind, c, 5);
         if (page.refusal != ISOLATED_REFUSED_NOT) {
             printf("refused %u: %s\n", page.refusal, isolated_refusal_text(page.refusal));
             return;
         }
-        for (size_t at = 0; at < page.used; at += 1 + output[at]) {
-            for (size_t i = 1; i <= output[at]; i++) {
-                printf(i == output[at] ? "%u\n" : "%u ", output[at + i] + 1u);
-            }
+        for (const uint16_t *record = output; record < output + page.used; record += ISOLATED_RECORD(record[0])) {
+            for (size_t i = 0; i < record[0]; i++) printf("%u ", record[3 + i] + 1u);
+            printf("(%u outgoing)\n", isolated_outgoing_edges(record));
         }
         groups += page.groups;
         steps += page.steps;

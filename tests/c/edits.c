@@ -6,7 +6,7 @@
 
 #include <stdio.h>
 
-enum { N = 5, ENTRIES = N + 1 };
+enum { N = 5 };
 
 static uint8_t table[N * N];
 static uint16_t degrees[N];
@@ -14,18 +14,18 @@ static uint16_t degrees[N];
 /* Lists all groups; each listing starts anew, since an edit may have changed the ranks. */
 static void list(void) {
     uint8_t position[N] = {0};
-    uint16_t output[ENTRIES], work[ISOLATED_WORK(N)];
+    uint16_t output[ISOLATED_RECORD(N)], work[ISOLATED_WORK(N)];
     isolated_page_answer page;
     printf("   ");
     do {
-        page = isolated_page(table, sizeof table, degrees, N, position, N, output, ENTRIES, work, ISOLATED_WORK(N), N,
-                             ISOLATED_MAX, ISOLATED_MAXIMAL_ISOLATED, 1, 1000);
+        page = isolated_page(table, sizeof table, degrees, N, position, N, output, ISOLATED_RECORD(N), work,
+                             ISOLATED_WORK(N), N, ISOLATED_MAX, ISOLATED_MAXIMAL_ISOLATED, 1, 1000);
         if (page.refusal != ISOLATED_REFUSED_NOT) {
             printf(" refused %u: %s\n", (unsigned)page.refusal, isolated_refusal_text(page.refusal));
             return;
         }
-        for (size_t at = 0; at < page.used; at += 1 + output[at]) {
-            for (size_t i = 1; i <= output[at]; i++) printf("%s%u", i == 1 ? " {" : " ", (unsigned)output[at + i]);
+        for (const uint16_t *record = output; record < output + page.used; record += ISOLATED_RECORD(record[0])) {
+            for (size_t i = 0; i < record[0]; i++) printf("%s%u", i == 0 ? " {" : " ", (unsigned)record[3 + i]);
             printf("}");
         }
     } while (page.stop != ISOLATED_STOP_FINISHED);

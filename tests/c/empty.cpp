@@ -46,7 +46,7 @@ Lent lend(unsigned empty, bool null) {
     it.null = null;
     if (!(empty & 1)) it.table = {0, 1, 1, 1, 1, 0, 0, 0, 1, 0, 0, 0, 1, 0, 0, 0};
     if (!(empty & 2)) it.bytes.assign(claw, 0);
-    if (!(empty & 4)) it.output.assign(claw + 1, 9);
+    if (!(empty & 4)) it.output.assign(ISOLATED_RECORD(claw), 9);
     if (!(empty & 8)) it.work.assign(ISOLATED_WORK(claw), 9);
     if (!(empty & 16)) it.degrees = {3, 1, 1, 1};
     return it;
@@ -134,7 +134,9 @@ void answers() {
 
     Lent no_output = lend(4, true);
     const isolated_page_answer full = page(no_output, claw, 2, 1000);
-    if (full.stop != ISOLATED_STOP_FULL || full.wanted != 2 || full.steps != 7) stop("no output: full at the first group");
+    if (full.stop != ISOLATED_STOP_FULL || full.wanted != 4 || full.steps != 7) {
+        stop("no output: full at the first group");
+    }
 
     const std::uint32_t refusals[] = {ISOLATED_REFUSED_TABLE_LENGTH, ISOLATED_REFUSED_LENGTH, ISOLATED_REFUSED_NOT,
                                       ISOLATED_REFUSED_WORK, ISOLATED_REFUSED_DEGREES};

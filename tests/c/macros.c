@@ -1,7 +1,8 @@
 /*
  * Provokes what each macro of the header names and compares it with the number that document 01 has for it, which is
  * written out here once more: a number that is changed in the header alone is found. One refusal can't be provoked any
- * more; its number alone is compared. The one argument is the number that the program `isolated` told of a text that
+ * more; its number alone is compared. What reads the outgoing edges of a record is tried on numbers of one half and of
+ * two, and on records that a page wrote. The one argument is the number that the program `isolated` told of a text that
  * is too long. Ends with status 1 at the first difference.
  */
 #include "isolated.h"
@@ -13,7 +14,7 @@
 enum { MOST = 1024, OVER = MOST + 1, CLAW = 4 };
 
 static uint8_t table[OVER * OVER], bytes[OVER];
-static uint16_t degrees[OVER], output[OVER], work[16 * OVER];
+static uint16_t degrees[OVER], output[MOST + 3], work[16 * OVER];
 
 /* What a call told and the macro are both the number; or the macro is, whose effect is tried beside it. */
 #define SAME(told, macro, number) same(#macro, told, macro, number)
@@ -45,7 +46,7 @@ static void put(size_t n, size_t u, size_t v) {
 
 /* A call that is accepted, on n vertices with no edge and nothing decided or in the set. */
 static call on_vertices(size_t n) {
-    call it = {n, n * n, n, n, n + 1, 8 * n, 0, 0, 1, 0, 0, 1};
+    call it = {n, n * n, n, n, n + 3, 8 * n, 0, 0, 1, 0, 0, 1};
     memset(table, 0, sizeof table);
     memset(degrees, 0, sizeof degrees);
     memset(bytes, 0, sizeof bytes);
@@ -231,6 +232,86 @@ static void bounds(void) {
     IS(ISOLATED_WORK(MOST), 8192);
 }
 
+/* Entries that no record of these tests has, and whether the output still has them from entry `used` on. */
+static void mark_output(void) {
+    for (size_t i = 0; i < sizeof output / sizeof *output; i++) output[i] = (uint16_t)(40000 + i);
+}
+
+static int is_marked_from(size_t used) {
+    for (size_t i = used; i < sizeof output / sizeof *output; i++) {
+        if (output[i] != 40000 + i) return 0;
+    }
+    return 1;
+}
+
+/* An output for a group of two holds the first pair of the claw, and one that is an entry shorter does not. What is
+   not used stays as it was. A page that is lent less than was wanted makes no step; one that is lent as much moves
+   on. */
+static void record_lengths(void) {
+    call it = on_claw();
+    isolated_page_answer answer;
+    it.budget = 1000, it.output_length = ISOLATED_RECORD(2) - 1;
+    mark_output();
+    answer = page(it);
+    hold("a pair wants 5 entries", answer.stop == 3 && answer.groups == 0 && answer.wanted == 5);
+    hold("where nothing fits, nothing is written", answer.used == 0 && is_marked_from(0));
+    answer = page(it);
+    hold("with 4 entries it goes no further", answer.stop == 3 && answer.steps == 0 && answer.wanted == 5);
+    it.output_length = answer.wanted;
+    answer = page(it);
+    hold("with the wanted entries it does", answer.stop == 3 && answer.steps > 0 && answer.groups == 1);
+    it = on_claw(), it.budget = 1000, it.output_length = ISOLATED_RECORD(2);
+    mark_output();
+    answer = page(it);
+    hold("a pair fits into 5 entries", answer.stop == 3 && answer.groups == 1 && answer.used == 5);
+    hold("nothing is written past them", is_marked_from(5));
+    it = on_claw(), it.budget = 1000, it.output_length = 2 * ISOLATED_RECORD(2) - 1;
+    mark_output();
+    answer = page(it);
+    hold("two pairs do not fit into 9 entries", answer.stop == 3 && answer.groups == 1 && answer.used == 5);
+    hold("the 4 that are not used stay as they were", is_marked_from(5));
+    IS(ISOLATED_RECORD(2), 5);
+    IS(ISOLATED_RECORD(MOST), 1027);
+}
+
+/* The two halves of a number are read, and nothing beside them. */
+static void outgoing_edges(void) {
+    static const struct {
+        uint16_t record[4];
+        uint32_t edges;
+    } cases[] = {
+        {{9, 0, 0, 9}, 0},           {{9, 0, 65535, 9}, 65535},   {{9, 1, 0, 9}, 65536},
+        {{9, 1, 65535, 9}, 131071},  {{9, 2, 769, 9}, 131841},    {{9, 3, 65024, 9}, 261632},
+        {{9, 4, 0, 9}, 262144},      {{9, 65535, 65535, 9}, 0xffffffff},
+    };
+    for (size_t i = 0; i < sizeof cases / sizeof *cases; i++) {
+        same("isolated_outgoing_edges", isolated_outgoing_edges(cases[i].record), cases[i].edges, cases[i].edges);
+    }
+}
+
+/* Vertices 0 to 255, pairwise joined, and 257 further ones that are joined to all of these and not to one another. A
+   group is the former and one of the latter, and 256 edges lead from each of the former to the others of the latter:
+   65,536, which the lower half alone doesn't hold. They are counted in the table too. */
+static void many_outgoing_edges(void) {
+    enum { JOINED = 256, FURTHER = 257, ALL = JOINED + FURTHER, RECORD = JOINED + 1 + 3 };
+    call it = on_vertices(ALL);
+    isolated_page_answer answer;
+    for (size_t u = 0; u < JOINED; u++) {
+        for (size_t v = u + 1; v < ALL; v++) put(ALL, u, v);
+    }
+    it.budget = 10000, it.output_length = 2 * RECORD;
+    answer = page(it);
+    hold("two groups are written", answer.refusal == 0 && answer.groups == 2 && answer.used == 2 * RECORD);
+    for (const uint16_t *record = output; record < output + answer.used; record += ISOLATED_RECORD(record[0])) {
+        uint8_t inside[ALL] = {0};
+        uint32_t edges = 0;
+        hold("a group has 257 vertices", record[0] == JOINED + 1);
+        for (size_t i = 0; i < record[0]; i++) inside[record[3 + i]] = 1;
+        for (size_t at = 0; at < (size_t)ALL * ALL; at++) edges += inside[at / ALL] && !inside[at % ALL] && table[at];
+        same("the outgoing edges of a group", isolated_outgoing_edges(record), edges, 65536);
+    }
+}
+
 /* Whether the claw's whole list is these entries. */
 static int lists(uint32_t notion, uint32_t kind, uint32_t c, const uint16_t *entries, size_t length) {
     call it = on_claw();
@@ -241,13 +322,15 @@ static int lists(uint32_t notion, uint32_t kind, uint32_t c, const uint16_t *ent
            memcmp(output, entries, length * sizeof *entries) == 0;
 }
 
-/* The claw has another list under each notion, and under each kind: K5 to K8 of document 01. */
+/* The claw has another list under each notion, and under each kind: K5 to K8 of document 01, with the records of
+   document 02, C-14. */
 static void notions_and_kinds(void) {
-    static const uint16_t leaves[] = {1, 1, 1, 2, 1, 3}, pairs[] = {2, 1, 0, 2, 2, 0, 2, 3, 0};
-    hold("min lists the pairs at factor 1", lists(ISOLATED_MIN, ISOLATED_MAXIMAL_ISOLATED, 1, pairs, 9));
+    static const uint16_t leaves[] = {1, 0, 1, 1, 1, 0, 1, 2, 1, 0, 1, 3};
+    static const uint16_t pairs[] = {2, 0, 2, 1, 0, 2, 0, 2, 2, 0, 2, 0, 2, 3, 0};
+    hold("min lists the pairs at factor 1", lists(ISOLATED_MIN, ISOLATED_MAXIMAL_ISOLATED, 1, pairs, 15));
     hold("avg lists nothing at factor 1", lists(ISOLATED_AVG, ISOLATED_MAXIMAL_ISOLATED, 1, pairs, 0));
-    hold("avg lists the pairs at factor 2", lists(ISOLATED_AVG, ISOLATED_MAXIMAL_ISOLATED, 2, pairs, 9));
-    hold("max lists the leaves at factor 2", lists(ISOLATED_MAX, ISOLATED_MAXIMAL_ISOLATED, 2, leaves, 6));
+    hold("avg lists the pairs at factor 2", lists(ISOLATED_AVG, ISOLATED_MAXIMAL_ISOLATED, 2, pairs, 15));
+    hold("max lists the leaves at factor 2", lists(ISOLATED_MAX, ISOLATED_MAXIMAL_ISOLATED, 2, leaves, 12));
     hold("max lists no leaf as isolated maximal", lists(ISOLATED_MAX, ISOLATED_ISOLATED_MAXIMAL, 2, leaves, 0));
     IS(ISOLATED_MIN, 0);
     IS(ISOLATED_AVG, 1);
@@ -256,11 +339,11 @@ static void notions_and_kinds(void) {
     IS(ISOLATED_ISOLATED_MAXIMAL, 1);
 }
 
-/* The stops, and the bytes of a position: K5 and K9 of document 01. */
+/* The stops, and the bytes of a position: K5 of document 01, and K9 as document 02, C-14, has it. */
 static void stops_and_positions(void) {
     call it = on_claw();
     isolated_page_answer answer;
-    it.notion = 2, it.c = 2, it.output_length = 1;
+    it.notion = 2, it.c = 2, it.output_length = 3;
     memset(bytes, ISOLATED_OPEN, CLAW);
     it.budget = 1;
     SAME(page(it).stop, ISOLATED_STOP_SPENT, 2);
@@ -269,7 +352,7 @@ static void stops_and_positions(void) {
     it.budget = 7;
     answer = page(it);
     SAME(answer.stop, ISOLATED_STOP_FULL, 3);
-    hold("6 steps, and 2 entries are wanted", answer.steps == 6 && answer.wanted == 2);
+    hold("6 steps, and 4 entries are wanted", answer.steps == 6 && answer.wanted == 4);
     SAME(bytes[0], ISOLATED_TAKEN, 1);
     SAME(bytes[1], ISOLATED_LEFT, 2);
     it.output_length = OVER, it.budget = 1000;
@@ -297,6 +380,9 @@ int main(int count, char **words) {
     refusals_of_the_text();
     repeated_pair();
     bounds();
+    record_lengths();
+    outgoing_edges();
+    many_outgoing_edges();
     notions_and_kinds();
     stops_and_positions();
     version();

@@ -17,7 +17,7 @@
 enum { N = ISOLATED_VERTICES, C = N / 2, UNTOUCHED = 0xa5 };
 
 static uint8_t table[N * N], position[N], set[N];
-static uint16_t degrees[N], output[N + 1], work[ISOLATED_WORK(N)];
+static uint16_t degrees[N], output[ISOLATED_RECORD(N)], work[ISOLATED_WORK(N)];
 static char text[12 * N];
 
 static unsigned char *from; /* where the call was made, on the thread's stack */
@@ -62,9 +62,10 @@ static void *ask_page(void *unused) {
     unsigned char here;
     isolated_page_answer answer;
     from = &here;
-    answer = isolated_page(table, sizeof table, degrees, N, position, N, output, N + 1, work, ISOLATED_WORK(N), N,
-                           ISOLATED_MAX, ISOLATED_MAXIMAL_ISOLATED, C, 1);
-    answered = answer.refusal == 0 && answer.groups == 1 && output[0] == 1 && output[1] == 0;
+    answer = isolated_page(table, sizeof table, degrees, N, position, N, output, ISOLATED_RECORD(N), work,
+                           ISOLATED_WORK(N), N, ISOLATED_MAX, ISOLATED_MAXIMAL_ISOLATED, C, 1);
+    answered = answer.refusal == 0 && answer.groups == 1 && output[0] == 1 &&
+               isolated_outgoing_edges(output) == C - 1 && output[3] == 0;
     return unused;
 }
 

@@ -1,4 +1,4 @@
--- Demands 2 and 3, C-11 and C-12 hold of the compiled functions `page::page`, `query::set_query`, `dimacs::read_text`, `edits::join`, `edits::part` and
+-- Demands 2 and 3, C-11, C-12 and C-14 hold of the compiled functions `page::page`, `query::set_query`, `dimacs::read_text`, `edits::join`, `edits::part` and
 -- `edits::list_degrees`, and of the calls of crate `ffi`, whose contracts those that C and Rust link, in `ffi_c`, repeat. Nothing of a contract is restated: `promised` is the contract that the checker proved.
 -- Assumes nothing.
 use mathlib.Core.Bool.{true, false}
@@ -26,11 +26,12 @@ use Rattle.ffi.proofs.isolated_join.Reads as exported-join
 use Rattle.ffi.proofs.isolated_part.Reads as exported-part
 use Rattle.ffi.proofs.isolated_degrees.Reads as exported-list
 use Rattle.demand.specs.Demand.{Promised, Calls}
-use Rattle.demand.specs.Compiled.{Compiled, AsksNothing, CompiledPage, call_of, Chained, PageHolds, ListHolds, QueryHolds, ReaderHolds, Never38Holds, ComparesLinesHolds, RepeatsHold, made, EditHolds, CompiledEdit, edit_of, UndoHolds, ChainHolds, RestoredHolds, ListedHolds}
+use Rattle.demand.specs.Compiled.{Compiled, AsksNothing, CompiledPage, call_of, Chained, PageHolds, ListHolds, RecordsHold, WantsHolds, QueryHolds, ReaderHolds, Never38Holds, ComparesLinesHolds, RepeatsHold, made, EditHolds, CompiledEdit, edit_of, UndoHolds, ChainHolds, RestoredHolds, ListedHolds}
 use Rattle.demand.specs.Edits.{Replied, AllReplied}
 use Rattle.demand.proofs.Demand.{demand}
 use Rattle.demand.proofs.Membership.{query_demand, list_demand, reader_demand}
 use Rattle.demand.proofs.Repeats.{never_38_demand, compares_lines_demand, repeats_demand}
+use Rattle.demand.proofs.Records.{records_demand, wants_demand}
 use Rattle.demand.proofs.Edits.{edit_demand, undo_demand, edits_chain_demand, restored_demand, listed_demand}
 
 -- ---- none of these functions asks for anything
@@ -94,6 +95,20 @@ compiled_list_demand G s simple ks h = list_demand G s simple (map call_of ks) (
 -- Demand 2 of the finished list of `isolated_page`.
 pub exported_list_demand : ListHolds exported-page.Post
 exported_list_demand G s simple ks h = list_demand G s simple (map call_of ks) (chained_calls (λ k. k.promised) G s (fresh G.size) ks h)
+
+-- C-14 of `page::page`.
+pub compiled_records_demand : RecordsHold page.Post
+compiled_records_demand G s simple ks h = records_demand G s simple (map call_of ks) (chained_calls (λ k. k.promised) G s (fresh G.size) ks h)
+
+pub compiled_wants_demand : WantsHolds page.Post
+compiled_wants_demand k = wants_demand (call_of k) k.promised
+
+-- C-14 of `isolated_page`.
+pub exported_records_demand : RecordsHold exported-page.Post
+exported_records_demand G s simple ks h = records_demand G s simple (map call_of ks) (chained_calls (λ k. k.promised) G s (fresh G.size) ks h)
+
+pub exported_wants_demand : WantsHolds exported-page.Post
+exported_wants_demand k = wants_demand (call_of k) k.promised
 
 -- ---- the set query
 

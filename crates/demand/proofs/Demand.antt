@@ -24,7 +24,7 @@ use Rattle.demand.specs.Demand.{MadeCall, Promised, reported, Calls, EachCall, E
 -- ---- a call of `page::page` and its reply in document 01
 
 -- what the call brought beside the position
-abbrev brought : MadeCall → Call
+abbrev pub brought : MadeCall → Call
 brought c =
     record {
       lent = lent c.size c.table c.degrees;
@@ -35,7 +35,7 @@ brought c =
     }
 
 -- a call that keeps its promise reports the reply
-reported-is : (c : MadeCall) → Promised c → reported c ≡ reply_to (brought c) c.position
+pub reported-is : (c : MadeCall) → Promised c → reported c ≡ reply_to (brought c) c.position
 reported-is c r i =
     record {
       refused = r.replies.refusal i;

@@ -1,6 +1,7 @@
--- The proofs of demands 2 and 3, of C-11 and of C-12.
+-- The proofs of demands 2 and 3, of C-11, of C-12 and of C-14.
 pub mod Demand
 pub mod Membership
 pub mod Repeats
 pub mod Edits
+pub mod Records
 pub mod Compiled

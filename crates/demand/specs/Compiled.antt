@@ -1,4 +1,4 @@
--- What demands 2 and 3 and the requests C-11 and C-12 say of a compiled function, over its contract as the checker itself reads it from the function's source
+-- What demands 2 and 3 and the requests C-11, C-12 and C-14 say of a compiled function, over its contract as the checker itself reads it from the function's source
 -- and proves it: `Post` is that contract, of the arguments, the answer and the memory at exit.
 -- Assumes nothing.
 use Rattle.std.specs.Prelude.{ℕ, ◌*◌, ◌≤◌, ◌≡◌, Bool, true, false, ◌↔◌, ◌⊎◌, List, [], ◌∷◌, map, length}
@@ -13,6 +13,7 @@ use Rattle.model.specs.Walk.{Position, fresh, records}
 use Rattle.model.specs.Listing.{rules}
 use Rattle.model.specs.Calls.{by_bytes}
 use Rattle.model.specs.Demand.{joined_output, SomeFinished}
+use Rattle.model.specs.Records.{RecordsMade, Wants}
 use Rattle.model.specs.Repeats.{DifferInRepeats}
 use Rattle.graph.specs.Table.{graph_of}
 use Rattle.page.proofs.page.Kinds as page-kinds
@@ -83,6 +84,18 @@ ListHolds Post =
     (G : Graph) (s : Settings) → Simple G → (ks : List (CompiledPage Post)) → Chained G s (fresh G.size) ks
     → SomeFinished (map reported (map call_of ks))
     → (ps : List Position) × (joined_output (map reported (map call_of ks)) ≡ records (rules G s) ps) × Lists G s ps
+
+-- C-14 of a compiled page call: what the records of the joined output say,
+abbrev pub RecordsHold : Out 5 page-kinds.ps page-kinds.r → Type 0
+RecordsHold Post =
+    (G : Graph) (s : Settings) → Simple G → (ks : List (CompiledPage Post)) → Chained G s (fresh G.size) ks → RecordsMade G s (map reported (map call_of ks))
+
+-- and the entries that a call wants.
+abbrev pub WantsHolds : Out 5 page-kinds.ps page-kinds.r → Type 0
+WantsHolds Post =
+    (k : CompiledPage Post)
+    → let c = call_of k in
+    Wants (graph_of c.size c.table) (settings c.notion c.kind c.factor) (reported c)
 
 -- ---- the set query
 

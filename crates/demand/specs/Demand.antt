@@ -67,7 +67,8 @@ Calls G s p (c ∷ cs) = OneOf G s p c × Calls G s c.position-left cs
 pub record EachCall (c : MadeCall) : Type 0 where
   -- "steps made equal the budget: stop Spent": never more steps than the budget
   pub within-budget : c.answer.steps ≤ c.budget
-  -- "With budget 1 or more and output of n + 1 entries or more, a call on an unfinished walk makes at least one step."
+  -- "With budget 1 or more and output of n + 1 entries or more, a call on an unfinished walk makes at least one step." Document 02, C-14: "the progress
+  -- rule wants n + 3"
   pub makes_step : c.answer.refusal ≡ 0 → finished c.position ≡ false → 1 ≤ c.budget → record_length c.size ≤ length c.output → 1 ≤ c.answer.steps
   -- a refused call "adds no output, groups or steps", and leaves the lent memory unchanged
   pub refused_idle : c.answer.refusal ≢ 0

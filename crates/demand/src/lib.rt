@@ -1,4 +1,4 @@
 #![tactic(auto)]
 
-// No function: demands 2 and 3 of document 01 and the request C-11 of document 02 as theorems over the contracts of the page call, the set query
-// and the text reader.
+// No function: demands 2 and 3 of document 01 and the requests C-11, C-12 and C-14 of document 02 as theorems over the contracts of the page call, the set
+// query, the text reader, the edits and the count of the degrees.

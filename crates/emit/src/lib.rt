@@ -9,7 +9,7 @@ ghost use Rattle.qualify.specs.Qualify.{Asks};
 ghost use Rattle.emit.specs.Emit.{Emitted};
 
 use crate::group::{put_group, record_length};
-use isolation::Criterion;
+use isolation::{Criterion, outgoing};
 use qualify::qualifies;
 use ranks::Ranked;
 use state::State;
@@ -22,7 +22,8 @@ pub struct Full {
 
 // Puts the group of the position that the state and the work slice stand for right after the used entries of the output, where there is one and it fits,
 // and answers how many entries are used then; else writes nothing of the output.
-// Document 01, "A page", point 3: a group whose record exceeds the unused entries is not written, and so many are wanted; point 4: else it is.
+// Document 01, "A page", point 3: a group whose record exceeds the unused entries is not written, and so many are wanted; point 4: else it is. Its outgoing
+// edges are counted from the sum of degrees that the state keeps.
 pub fn emit(
     s: State,
     q: Criterion,
@@ -43,7 +44,7 @@ pub fn emit(
     if output.len() - used < entries {
         return Err(Full { wanted: entries });
     }
-    put_group(output, used, &work[n..n + k]);
+    put_group(output, used, outgoing(k, s.sum), &work[n..n + k]);
     let end = used + entries;
     Ok(Some(end))
 }

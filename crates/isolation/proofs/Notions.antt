@@ -32,16 +32,16 @@ settings-back s q r h k = rw (r.notion, r.kind, r.factor, notion-back s.notion h
 
 -- ---- the isolation test r by the notion's number: 0, 1 and above
 
-module _ (notion : ℕ) (c : Factor) (k sum least largest : ℕ) {others x : ℕ} {r : Bool} where
-  pub isolated_min_lem : notion ≡ 0 → others ≡ k - 1 → x ≡ least - others → r ≡ within c 1 x → r ≡ isolated_by notion c k sum least largest
+module _ (notion : ℕ) (c : Factor) (k sum least largest : ℕ) {x : ℕ} {r : Bool} where
+  pub isolated_min_lem : {others : ℕ} → notion ≡ 0 → others ≡ k - 1 → x ≡ least - others → r ≡ within c 1 x → r ≡ isolated_by notion c k sum least largest
   unfolding isolated_by
   isolated_min_lem e o d t = rw (e, t, d, o) refl
 
-  pub isolated_avg_lem : notion ≡ 1 → others ≡ k - 1 → x ≡ sum - k * others → r ≡ within c k x → r ≡ isolated_by notion c k sum least largest
+  pub isolated_avg_lem : notion ≡ 1 → x ≡ sum - k * (k - 1) → r ≡ within c k x → r ≡ isolated_by notion c k sum least largest
   unfolding isolated_by
-  isolated_avg_lem e o d t = rw (e, t, d, o) refl
+  isolated_avg_lem e d t = rw (e, t, d) refl
 
-  pub isolated_max_lem : notion ≢ 0 → notion ≢ 1 → others ≡ k - 1 → x ≡ largest - others → r ≡ within c 1 x → r ≡ isolated_by notion c k sum least largest
+  pub isolated_max_lem : {others : ℕ} → notion ≢ 0 → notion ≢ 1 → others ≡ k - 1 → x ≡ largest - others → r ≡ within c 1 x → r ≡ isolated_by notion c k sum least largest
   unfolding isolated_by
   isolated_max_lem a b o d t = rw (t, d, o) (go notion a b)
     where

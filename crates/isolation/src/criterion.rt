@@ -1,7 +1,7 @@
 // What sets are judged by, and the isolation test over a set's numbers.
 ghost use Rattle.std.specs.Prelude.{◌≤◌};
 
-use crate::{Kind, Notion, Tally};
+use crate::{Kind, Notion, Tally, outgoing};
 
 // What sets are judged by, read off settings that are not refused: the notion, the kind, and the factor c, which is at most 1,024.
 #[derive(Clone, Copy, Debug, PartialEq, Eq)]
@@ -36,7 +36,7 @@ impl Criterion {
         let others = t.members.saturating_sub(1);
         match self.notion {
             Notion::Min => self.within(1, t.least.saturating_sub(others)),
-            Notion::Avg => self.within(t.members, t.sum.saturating_sub(t.members * others)),
+            Notion::Avg => self.within(t.members, outgoing(t.members, t.sum)),
             Notion::Max => self.within(1, t.largest.saturating_sub(others)),
         }
     }

@@ -1,7 +1,7 @@
 // The settings of a call, the criterion that they are read as, and a set's numbers.
 #![tactic(auto)]
 
-ghost use Rattle.std.specs.Prelude.{◌≡◌, ◌+◌, ◌≤◌, IfOk};
+ghost use Rattle.std.specs.Prelude.{◌≡◌, ◌+◌, ◌-◌, ◌*◌, ◌≤◌, IfOk};
 ghost use Rattle.model.specs.Calls.{refuse_settings};
 ghost use Rattle.refusal.specs.Numbers.{fault};
 ghost use Rattle.isolation.specs.Numbers.{settings_of, settings_in, notion_of, kind_of, with_member, grown_of, FactorFits, CriterionOf};
@@ -129,4 +129,13 @@ impl Tally {
             largest: self.largest.max(each),
         }
     }
+}
+
+// The outgoing edges of a clique, document 002, section 2.1, by how many members it has and the sum of their degrees: each of k members is joined to the k - 1
+// others, and all its other edges leave.
+pub fn outgoing(members: usize, sum: usize) -> usize
+    requires { members ≤ 1024 }
+    ensures { result ≡ sum - members * (members - 1) }
+{
+    sum.saturating_sub(members * members.saturating_sub(1))
 }

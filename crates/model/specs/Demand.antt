@@ -88,7 +88,8 @@ pub record Demand3 (R : Rules) (n : ℕ) (rs : List PageReply) : Type 0 where
 
 -- ---- the page calls of document 01
 
--- "With budget 1 or more and output of n + 1 entries or more, a call on an unfinished walk makes at least one step." So does an accepted call.
+-- "With budget 1 or more and output of n + 1 entries or more, a call on an unfinished walk makes at least one step." So does an accepted call. Document 02,
+-- C-14: "the progress rule wants n + 3"
 abbrev pub MakesStep : ℕ → Call → Position → Type 0
 MakesStep n c p = (reply_to c p).refused ≡ 0 → finished p ≡ false → 1 ≤ c.budget → record_length n ≤ length c.output → 1 ≤ (reply_to c p).steps
 

@@ -14,6 +14,7 @@ pub mod EdgeText
 pub mod Repeats
 pub mod Program
 pub mod Demand
+pub mod Records
 pub mod Walking
 pub mod Worked
 pub mod Compute

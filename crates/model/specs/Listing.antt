@@ -1,9 +1,9 @@
 -- The rules of document 01 for the walk, the list and the page: the isolated cliques of a graph.
 -- Assumes nothing.
-use Rattle.std.specs.Prelude.{ℕ, ◌+◌, Bool, ◌&&◌, ◌||◌, not, List, ◌∷◌, map, length, get_or, ltb, eqb}
+use Rattle.std.specs.Prelude.{ℕ, ◌+◌, ◌/◌, ◌%◌, Bool, ◌&&◌, ◌||◌, not, List, ◌∷◌, map, length, get_or, ltb, eqb}
 use Rattle.model.specs.Below.{any, count, least, passing}
 use Rattle.model.specs.Graph.{Graph, rank_of, vertex_at}
-use Rattle.model.specs.Groups.{Factor, Settings, VertexSet, within, qualifies}
+use Rattle.model.specs.Groups.{Factor, Settings, VertexSet, within, outgoing, qualifies}
 use Rattle.model.specs.Walk.{Position, Rules, has}
 
 -- rank r of a position is x
@@ -40,13 +40,18 @@ taken_set G p v = is 1 p (rank_of G v)
 unfoldable pub taken_list : Graph → Position → List ℕ
 taken_list G p = map (vertex_at G) (passing G.size (is 1 p))
 
--- Document 01, "Which sets qualify": a set's record is its size and then its vertices in rank order
-unfoldable pub record_of : Graph → Position → List ℕ
-record_of G p = length (taken_list G p) ∷ taken_list G p
+-- Document 02, C-14: "The record is now size, outgoing edges div 65,536, the rest, then the vertices", here of the vertices vs with so many outgoing
+-- edges
+unfoldable pub record_with : ℕ → List ℕ → List ℕ
+record_with edges vs = length vs ∷ edges / 65536 ∷ edges % 65536 ∷ vs
 
--- the entries of the record of a set of k vertices
+-- that of the taken set: its outside counts summed, and its vertices in rank order
+unfoldable pub record_of : Graph → Position → List ℕ
+record_of G p = record_with (outgoing G (taken_set G p)) (taken_list G p)
+
+-- Document 02, C-14: "A group takes size + 3 entries", k being the size
 abbrev pub record_length : ℕ → ℕ
-record_length k = k + 1
+record_length k = k + 3
 
 -- the rules of a graph and settings
 abbrev pub rules : Graph → Settings → Rules

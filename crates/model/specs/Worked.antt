@@ -1,11 +1,12 @@
 -- Document 01, "Graphs worked through": K1 to K10 as one statement, and beside it what they leave open and is pinned by value too. Both are
 -- proved in `Rattle.model.proofs.ByValue`.
 -- Assumes nothing.
-use Rattle.std.specs.Prelude.{ℕ, ◌+◌, ◌≤◌, ◌≡◌, true, false, List, [], ◌∷◌, ◌++◌, replicate}
+use Rattle.std.specs.Prelude.{ℕ, ◌+◌, ◌≤◌, ◌≡◌, true, false, List, [], ◌∷◌, ◌++◌, length, replicate}
 use Rattle.model.specs.Graph.{Graph, LentGraph, by_table}
 use Rattle.model.specs.Groups.{Settings, settings, isolated_clique}
 use Rattle.model.specs.Walk.{Position, fresh, lasts, full_list}
-use Rattle.model.specs.Listing.{rules}
+use Rattle.model.specs.Listing.{record_with, rules}
+use Rattle.model.specs.Records.{RecordSays}
 use Rattle.model.specs.Text.{read_text}
 use Rattle.model.specs.Calls.{byte_table, with_degrees, refuse_settings, refuse_page, PageReply, page_call, by_bytes, QueryReply, query}
 use Rattle.model.specs.Edits.{edit_call, degrees_call}
@@ -51,21 +52,22 @@ abbrev pub wrote_nothing : ℕ → ℕ → ℕ → Position → List ℕ → Pag
 wrote_nothing stop steps wanted p out =
     record { refused = 0; stop = stop; groups = 0; used = 0; steps = steps; wanted = wanted; position = p; output = out }
 
--- K1 to K10; "every notion and kind" and "every c" are variables
+-- K1 to K10, where document 02, C-14, puts two entries into each record of K2 to K9: "every notion and kind" and "every c" are variables, and so is
+-- K9's output, of one entry in document 01 and here of any length under the 4 that the group wants
 pub record Worked : Type 0 where
   pub K1 : (notion kind c : ℕ) → Gives (by_table 0 []) (settings notion kind c) [] 0
-  pub K2 : (notion kind : ℕ) → notion ≤ 2 → kind ≤ 1 → Gives one (settings notion kind 1) (1 ∷ 0 ∷ []) 2
-  pub K3 : (kind : ℕ) → kind ≤ 1 → Gives unjoined (settings 2 kind 1) (1 ∷ 0 ∷ 1 ∷ 1 ∷ []) 6
-  pub K4 : (notion kind : ℕ) → notion ≤ 2 → kind ≤ 1 → Gives triangle (settings notion kind 1) (3 ∷ 0 ∷ 1 ∷ 2 ∷ []) 10
-  pub K5 : Gives claw (settings 2 0 2) (1 ∷ 1 ∷ 1 ∷ 2 ∷ 1 ∷ 3 ∷ []) 20
+  pub K2 : (notion kind : ℕ) → notion ≤ 2 → kind ≤ 1 → Gives one (settings notion kind 1) (1 ∷ 0 ∷ 0 ∷ 0 ∷ []) 2
+  pub K3 : (kind : ℕ) → kind ≤ 1 → Gives unjoined (settings 2 kind 1) (1 ∷ 0 ∷ 0 ∷ 0 ∷ 1 ∷ 0 ∷ 0 ∷ 1 ∷ []) 6
+  pub K4 : (notion kind : ℕ) → notion ≤ 2 → kind ≤ 1 → Gives triangle (settings notion kind 1) (3 ∷ 0 ∷ 0 ∷ 0 ∷ 1 ∷ 2 ∷ []) 10
+  pub K5 : Gives claw (settings 2 0 2) (1 ∷ 0 ∷ 1 ∷ 1 ∷ 1 ∷ 0 ∷ 1 ∷ 2 ∷ 1 ∷ 0 ∷ 1 ∷ 3 ∷ []) 20
   pub K6 : Gives claw (settings 2 1 2) [] 20
-  pub K7 : Gives claw (settings 1 0 2) (2 ∷ 1 ∷ 0 ∷ 2 ∷ 2 ∷ 0 ∷ 2 ∷ 3 ∷ 0 ∷ []) 20
-  pub K8-min : (kind : ℕ) → kind ≤ 1 → Gives claw (settings 0 kind 1) (2 ∷ 1 ∷ 0 ∷ 2 ∷ 2 ∷ 0 ∷ 2 ∷ 3 ∷ 0 ∷ []) 20
+  pub K7 : Gives claw (settings 1 0 2) (2 ∷ 0 ∷ 2 ∷ 1 ∷ 0 ∷ 2 ∷ 0 ∷ 2 ∷ 2 ∷ 0 ∷ 2 ∷ 0 ∷ 2 ∷ 3 ∷ 0 ∷ []) 20
+  pub K8-min : (kind : ℕ) → kind ≤ 1 → Gives claw (settings 0 kind 1) (2 ∷ 0 ∷ 2 ∷ 1 ∷ 0 ∷ 2 ∷ 0 ∷ 2 ∷ 2 ∷ 0 ∷ 2 ∷ 0 ∷ 2 ∷ 3 ∷ 0 ∷ []) 20
   pub K8-avg : (kind : ℕ) → kind ≤ 1 → Gives claw (settings 1 kind 1) [] 20
-  pub K9-full : (x work : ℕ) → 32 ≤ work →
-      page_call 4 claw_table claw_degrees (settings 2 0 2) 8 (fresh 4) (x ∷ []) work ≡ wrote_nothing 3 7 2 (1 ∷ 2 ∷ 2 ∷ 2 ∷ []) (x ∷ [])
-  pub K9-spent : (x work : ℕ) → 32 ≤ work →
-      page_call 4 claw_table claw_degrees (settings 2 0 2) 7 (fresh 4) (x ∷ []) work ≡ wrote_nothing 2 7 0 (1 ∷ 2 ∷ 2 ∷ 2 ∷ []) (x ∷ [])
+  pub K9-full : (out : List ℕ) (work : ℕ) → length out ≤ 3 → 32 ≤ work →
+      page_call 4 claw_table claw_degrees (settings 2 0 2) 8 (fresh 4) out work ≡ wrote_nothing 3 7 4 (1 ∷ 2 ∷ 2 ∷ 2 ∷ []) out
+  pub K9-spent : (out : List ℕ) (work : ℕ) → length out ≤ 3 → 32 ≤ work →
+      page_call 4 claw_table claw_degrees (settings 2 0 2) 7 (fresh 4) out work ≡ wrote_nothing 2 7 0 (1 ∷ 2 ∷ 2 ∷ 2 ∷ []) out
   pub K10 : (notion kind c work : ℕ) → notion ≤ 2 → kind ≤ 1 → 1 ≤ c → c ≤ 1024 → 32 ≤ work →
       (refuse_page claw_lent (settings notion kind c) (1 ∷ 1 ∷ 0 ∷ 0 ∷ []) work ≡ 0)
       × (refuse_page claw_lent (settings notion kind c) (1 ∷ 1 ∷ 1 ∷ 0 ∷ []) work ≡ 23)
@@ -116,22 +118,22 @@ ask_claw set = query 4 claw_table claw_degrees (settings 2 0 2) set 32
 
 -- What K1 to K10 leave open, with any contents x of lent memory.
 pub record Pinned (x : ℕ) : Type 0 where
-  -- "its size + 1 exceeds the unused entries": with an output of length 2, where K9 has 1, K9's group fits exactly
+  -- Document 02, C-14: "A group takes size + 3 entries, at Full and in the wanted count too": with an output of length 4 K9's group fits exactly
   pub room :
-      on_claw 8 (fresh 4) (x ∷ x ∷ [])
-      ≡ record { refused = 0; stop = 2; groups = 1; used = 2; steps = 8; wanted = 0; position = 2 ∷ 0 ∷ 0 ∷ 0 ∷ []; output = 1 ∷ 1 ∷ [] }
+      on_claw 8 (fresh 4) (x ∷ x ∷ x ∷ x ∷ [])
+      ≡ record { refused = 0; stop = 2; groups = 1; used = 4; steps = 8; wanted = 0; position = 2 ∷ 0 ∷ 0 ∷ 0 ∷ []; output = 1 ∷ 0 ∷ 1 ∷ 1 ∷ [] }
   -- the whole of K5 in one page: each group goes right after the entries already used, and the entry past them keeps its contents
   pub whole :
-      on_claw 4294967295 (fresh 4) (x ∷ x ∷ x ∷ x ∷ x ∷ x ∷ x ∷ [])
+      on_claw 4294967295 (fresh 4) (replicate 13 x)
       ≡ record {
         refused = 0;
         stop = 1;
         groups = 3;
-        used = 6;
+        used = 12;
         steps = 20;
         wanted = 0;
         position = 2 ∷ 2 ∷ 2 ∷ 2 ∷ [];
-        output = 1 ∷ 1 ∷ 1 ∷ 2 ∷ 1 ∷ 3 ∷ x ∷ [];
+        output = 1 ∷ 0 ∷ 1 ∷ 1 ∷ 1 ∷ 0 ∷ 1 ∷ 2 ∷ 1 ∷ 0 ∷ 1 ∷ 3 ∷ x ∷ [];
       }
   -- "Budget 0: Spent from fresh, Finished when finished"
   pub budget-fresh : on_claw 0 (fresh 4) [] ≡ wrote_nothing 2 0 0 (fresh 4) []
@@ -147,8 +149,19 @@ pub record Pinned (x : ℕ) : Type 0 where
   -- "c 1,024 passes, 1,025 is 8"
   pub factor : (refuse_settings (settings 2 0 1024) ≡ 0) × (refuse_settings (settings 2 0 1025) ≡ 8)
   -- K11, max, kind 0, c 3: {0} is not maximal, since the triangle is isolated, though {0, 1} isn't isolated
-  pub K11 : full_list (rules two_stems (settings 2 0 3)) 7 ≡ (1 ∷ 3 ∷ 1 ∷ 4 ∷ 1 ∷ 5 ∷ 1 ∷ 6 ∷ 3 ∷ 0 ∷ 1 ∷ 2 ∷ [])
+  pub K11 : full_list (rules two_stems (settings 2 0 3)) 7 ≡ (1 ∷ 0 ∷ 1 ∷ 3 ∷ 1 ∷ 0 ∷ 1 ∷ 4 ∷ 1 ∷ 0 ∷ 1 ∷ 5 ∷ 1 ∷ 0 ∷ 1 ∷ 6 ∷ 3 ∷ 0 ∷ 4 ∷ 0 ∷ 1 ∷ 2 ∷ [])
   pub K11-pair : isolated_clique two_stems 2 3 (by_bytes (1 ∷ 1 ∷ [])) ≡ false
+  -- Document 02, C-14: "outgoing edges div 65,536, the rest", on both sides of 65,536, and where neither part is 0
+  pub halves :
+      (record_with 65535 (x ∷ []) ≡ 1 ∷ 0 ∷ 65535 ∷ x ∷ [])
+      × (record_with 65536 (x ∷ []) ≡ 1 ∷ 1 ∷ 0 ∷ x ∷ [])
+      × (record_with 261632 (x ∷ []) ≡ 1 ∷ 3 ∷ 65024 ∷ x ∷ [])
+  -- the record of a leaf says what it should of that leaf, and with the halves exchanged, the centre in its place or another vertex it does not
+  pub says_leaf : RecordSays claw (by_bytes (0 ∷ 1 ∷ 0 ∷ 0 ∷ [])) (1 ∷ 0 ∷ 1 ∷ 1 ∷ [])
+  pub says-no-other :
+      (RecordSays claw (by_bytes (0 ∷ 1 ∷ 0 ∷ 0 ∷ [])) (1 ∷ 1 ∷ 0 ∷ 1 ∷ []) → ⊥)
+      × (RecordSays claw (by_bytes (0 ∷ 1 ∷ 0 ∷ 0 ∷ [])) (1 ∷ 0 ∷ 3 ∷ 0 ∷ []) → ⊥)
+      × (RecordSays claw (by_bytes (0 ∷ 1 ∷ 0 ∷ 0 ∷ [])) (1 ∷ 0 ∷ 1 ∷ 2 ∷ []) → ⊥)
   -- a set query says yes to a leaf of the claw, and no to its centre and to the empty set
   pub asked_leaf : ask_claw (0 ∷ 1 ∷ 0 ∷ 0 ∷ []) ≡ record { refused = 0; yes = true }
   pub asked_centre : ask_claw (1 ∷ 0 ∷ 0 ∷ 0 ∷ []) ≡ record { refused = 0; yes = false }

@@ -14,7 +14,8 @@ use Rattle.std.proofs.lemmas.List.{at_drop_more}
 use Rattle.model.specs.Program.{numeral}
 use Rattle.theory.specs.Printed.{printed_from, printed}
 use Rattle.print.specs.declared.Printer.{Printer}
-use Rattle.print.specs.Put.{Room, Puts, EntryPut}
+use Rattle.print.specs.declared.ToCome.{ToCome}
+use Rattle.print.specs.Put.{Room, Puts, printed_after, EntryPut}
 use Rattle.print.proofs.Puts.{puts_as, puts_none, puts-length, puts_then}
 use Rattle.print.proofs.Numeral.{five_digits}
 
@@ -28,15 +29,24 @@ pub byte_fits : {p q : Printer} (k : ℕ) → k ≤ 65536 → Room p 6 → Puts 
 byte_fits k h w puts = let e = puts.place in omega (arith, puts-length puts, five_digits k h)
 
 -- the size of an empty group
-empty_goes : (es : List ℕ) → printed_from 0 (0 ∷ es) ≡ (10 ∷ []) ++ printed_from 0 es
+empty_goes : (es : List ℕ) → printed_from 0 0 (0 ∷ es) ≡ (10 ∷ []) ++ printed_from 2 0 es
 unfolding printed_from
 empty_goes es = refl
 
 -- the size of any other
-size-goes : (e : ℕ) → e ≢ 0 → (es : List ℕ) → printed_from 0 (e ∷ es) ≡ [] ++ printed_from e es
+size-goes : (e : ℕ) → e ≢ 0 → (es : List ℕ) → printed_from 0 0 (e ∷ es) ≡ [] ++ printed_from 2 e es
 unfolding printed_from
 size-goes zero d es = absurd (d refl)
 size-goes (suc e) d es = refl
+
+-- an entry that tells outgoing edges
+edges-go : (edges left e : ℕ) → 0 < edges → (es : List ℕ) → printed_from edges left (e ∷ es) ≡ [] ++ printed_from (edges - 1) left es
+unfolding printed_from
+edges-go zero left e h es = absurd (omega arith)
+edges-go (suc edges) left e h es = ap (λ (k : ℕ). printed_from k left es) (one_off edges)
+  where
+    one_off : (k : ℕ) → k ≡ suc k - 1
+    one_off k = omega arith
 
 -- two or more, less one
 one_less : (k : ℕ) → suc k ≡ suc (suc k) - 1
@@ -44,87 +54,93 @@ one_less k = omega arith
 
 -- a vertex
 vertex-goes : (left e : ℕ) → left ≢ 0 → (es : List ℕ)
-    → printed_from left (e ∷ es) ≡ (numeral (e + 1) ++ (cond (eqb left 1) 10 32 ∷ [])) ++ printed_from (left - 1) es
+    → printed_from 0 left (e ∷ es) ≡ (numeral (e + 1) ++ (cond (eqb left 1) 10 32 ∷ [])) ++ printed_from 0 (left - 1) es
 unfolding printed_from
 vertex-goes zero e d es = absurd (d refl)
 vertex-goes (suc zero) e d es =
-    ap (λ (k : ℕ). numeral k ++ (10 ∷ printed_from 0 es)) (sym (add-one e)) ∙ sym (append_assoc (numeral (e + 1)) (10 ∷ []) (printed_from 0 es))
+    ap (λ (k : ℕ). numeral k ++ (10 ∷ printed_from 0 0 es)) (sym (add-one e)) ∙ sym (append_assoc (numeral (e + 1)) (10 ∷ []) (printed_from 0 0 es))
 vertex-goes (suc (suc k)) e d es =
-    ap (λ (m : ℕ). numeral m ++ (32 ∷ printed_from (suc k) es)) (sym (add-one e))
-    ∙ sym (append_assoc (numeral (e + 1)) (32 ∷ []) (printed_from (suc k) es))
-    ∙ ap₂ (λ (z l : ℕ). (numeral (e + 1) ++ (z ∷ [])) ++ printed_from l es)
+    ap (λ (m : ℕ). numeral m ++ (32 ∷ printed_from 0 (suc k) es)) (sym (add-one e))
+    ∙ sym (append_assoc (numeral (e + 1)) (32 ∷ []) (printed_from 0 (suc k) es))
+    ∙ ap₂ (λ (z l : ℕ). (numeral (e + 1) ++ (z ∷ [])) ++ printed_from 0 l es)
     (sym (ap (λ (b : Bool). cond {A = ℕ} b 10 32) (ne_eqb (suc (suc k)) 1 (λ z. omega arith)))) (one_less k)
 
-module _ {p : Printer} {left e : ℕ} where
-  pub put_empty : left ≡ 0 → e ≡ 0 → {q : Printer} → Puts p (10 ∷ []) q → EntryPut p left e q e
+-- nothing is put of an entry that tells outgoing edges
+pub put_edges : {p : Printer} {t : ToCome} (e : ℕ) → 0 < t.edge_entries → Room p 0 → EntryPut p t e p (record { edge_entries = t.edge_entries - 1; vertices = t.vertices })
+put_edges {t = t} e h w =
+    record { out = []; puts = puts_none w; goes = edges-go t.edge_entries t.vertices e h; short = omega arith }
+
+module _ {p : Printer} {t : ToCome} {e : ℕ} (told : t.edge_entries ≡ 0) where
+  pub put_empty : t.vertices ≡ 0 → e ≡ 0 → {q : Printer} → Puts p (10 ∷ []) q → EntryPut p t e q (record { edge_entries = 2; vertices = e })
   put_empty h g puts =
       record {
         out = 10 ∷ [];
         puts = puts;
-        goes = λ es. rw (h, g) (empty_goes es);
+        goes = λ es. rw (told, h, g) (empty_goes es);
         short = omega arith;
       }
 
-  pub put-size : left ≡ 0 → e ≢ 0 → Room p 0 → EntryPut p left e p e
+  pub put-size : t.vertices ≡ 0 → e ≢ 0 → Room p 0 → EntryPut p t e p (record { edge_entries = 2; vertices = e })
   put-size h d w =
       record {
         out = [];
         puts = puts_none w;
-        goes = λ es. ap (λ (l : ℕ). printed_from l (e ∷ es)) h ∙ size-goes e d es;
+        goes = λ es. rw (told, h) (size-goes e d es);
         short = omega arith;
       }
 
-  pub put-vertex : left ≢ 0 → e ≤ 65535 → {q r : Printer} {z : ℕ} → Puts p (numeral (e + 1)) q → Puts q (z ∷ []) r → z ≡ cond (eqb left 1) 10 32
-      → EntryPut p left e r (left - 1)
+  pub put-vertex : t.vertices ≢ 0 → e ≤ 65535 → {q r : Printer} {z : ℕ} → Puts p (numeral (e + 1)) q → Puts q (z ∷ []) r → z ≡ cond (eqb t.vertices 1) 10 32
+      → EntryPut p t e r (record { edge_entries = t.edge_entries; vertices = t.vertices - 1 })
   put-vertex d w {z = z} first second b =
       record {
         out = numeral (e + 1) ++ (z ∷ []);
         puts = puts_then first second;
-        goes = λ es. vertex-goes left e d es ∙ ap (λ (x : ℕ). (numeral (e + 1) ++ (x ∷ [])) ++ printed_from (left - 1) es) (sym b);
+        goes = λ es. rw told (vertex-goes t.vertices e d es ∙ ap (λ (x : ℕ). (numeral (e + 1) ++ (x ∷ [])) ++ printed_from 0 (t.vertices - 1) es) (sym b));
         short = omega (arith, five_digits (e + 1) (omega arith), length-append (numeral (e + 1)) (z ∷ []));
       }
 
 -- ---- all entries
 
 -- nothing is printed of no entries
-nothing : (left : ℕ) → printed_from left [] ≡ []
+nothing : (edges left : ℕ) → printed_from edges left [] ≡ []
 unfolding printed_from
-nothing zero = refl
-nothing (suc k) = refl
+nothing (suc edges) left = refl
+nothing zero zero = refl
+nothing zero (suc k) = refl
 
 -- the first i entries are printed, and the rest follows
-pub record SoFar (entries : List ℕ) (before after : Printer) (left i : ℕ) : Type 0 where
+pub record SoFar (entries : List ℕ) (before after : Printer) (to_come : ToCome) (i : ℕ) : Type 0 where
   pub out : List ℕ
   pub puts : Puts before out after
-  pub goes : printed entries ≡ out ++ printed_from left (drop i entries)
+  pub goes : printed entries ≡ out ++ printed_after to_come (drop i entries)
   pub short : length out ≤ 6 * i
 
 module _ {entries : List ℕ} {before : Printer} where
-  pub so_none : Room before 0 → SoFar entries before before 0 0
+  pub so_none : Room before 0 → SoFar entries before before (record { edge_entries = 0; vertices = 0 }) 0
   unfolding printed
   so_none h =
       record { out = []; puts = puts_none h; goes = refl; short = omega arith }
 
-  pub so_more : {after : Printer} {left i : ℕ} → SoFar entries before after left i → i < length entries
-      → {next : Printer} {left' : ℕ} → EntryPut after left (get_or entries i 0) next left' → SoFar entries before next left' (i + 1)
-  so_more {left = left} {i} f h {left' = left'} p =
+  pub so_more : {after : Printer} {t : ToCome} {i : ℕ} → SoFar entries before after t i → i < length entries
+      → {next : Printer} {t₁ : ToCome} → EntryPut after t (get_or entries i 0) next t₁ → SoFar entries before next t₁ (i + 1)
+  so_more {t = t} {i} f h {t₁ = t₁} p =
       record {
         out = f.out ++ p.out;
         puts = puts_then f.puts p.puts;
         goes =
             f.goes
-            ∙ at_drop_more (λ (es : List ℕ). f.out ++ printed_from left es) entries i 0 h
+            ∙ at_drop_more (λ (es : List ℕ). f.out ++ printed_after t es) entries i 0 h
             ∙ ap (λ (l : List ℕ). f.out ++ l) (p.goes (drop (i + 1) entries))
-            ∙ sym (append_assoc f.out p.out (printed_from left' (drop (i + 1) entries)));
+            ∙ sym (append_assoc f.out p.out (printed_after t₁ (drop (i + 1) entries)));
         short = let a = length-append f.out p.out in let b = f.short in let d = p.short in omega arith;
       }
 
-  pub so_all : {after : Printer} {left i : ℕ} → SoFar entries before after left i → i ≡ length entries → Puts before (printed entries) after
-  so_all {left = left} f e =
+  pub so_all : {after : Printer} {t : ToCome} {i : ℕ} → SoFar entries before after t i → i ≡ length entries → Puts before (printed entries) after
+  so_all {t = t} f e =
       puts_as
       (sym (f.goes
-      ∙ ap (λ (es : List ℕ). f.out ++ printed_from left es) (ap (λ (k : ℕ). drop k entries) e ∙ drop-length entries)
-      ∙ ap (λ (l : List ℕ). f.out ++ l) (nothing left)
+      ∙ ap (λ (es : List ℕ). f.out ++ printed_after t es) (ap (λ (k : ℕ). drop k entries) e ∙ drop-length entries)
+      ∙ ap (λ (l : List ℕ). f.out ++ l) (nothing t.edge_entries t.vertices)
       ∙ append-nil f.out))
       f.puts
 

@@ -3,6 +3,7 @@ use Rattle.std.specs.Prelude.{ℕ, ◌+◌, ◌≤◌, ◌≡◌, List, [], ◌�
 use Rattle.model.specs.Program.{numeral}
 use Rattle.theory.specs.Printed.{printed_from}
 use Rattle.print.specs.declared.Printer.{Printer}
+use Rattle.print.specs.declared.ToCome.{ToCome}
 
 -- there is room for so many more bytes
 abbrev pub Room : Printer → ℕ → Type 0
@@ -16,11 +17,15 @@ pub record Puts (before : Printer) (out : List ℕ) (after : Printer) : Type 0 w
   pub within : after.at ≤ length before.bytes.now
   pub bytes : after.bytes.now ≡ take before.at before.bytes.now ++ (out ++ drop after.at before.bytes.now)
 
--- what is printed of an entry, with so many vertices to come, is put, and what is printed of the entries after it follows
-pub record EntryPut (before : Printer) (left entry : ℕ) (after : Printer) (left' : ℕ) : Type 0 where
+-- what is printed of output entries where so much of the record at hand is to come
+abbrev pub printed_after : ToCome → List ℕ → List ℕ
+printed_after t es = printed_from t.edge_entries t.vertices es
+
+-- what is printed of an entry, with so much to come, is put, and what is printed of the entries after it follows
+pub record EntryPut (before : Printer) (to_come : ToCome) (entry : ℕ) (after : Printer) (to_come₁ : ToCome) : Type 0 where
   pub out : List ℕ
   pub puts : Puts before out after
-  pub goes : (es : List ℕ) → printed_from left (entry ∷ es) ≡ out ++ printed_from left' es
+  pub goes : (es : List ℕ) → printed_after to_come (entry ∷ es) ≡ out ++ printed_after to_come₁ es
   pub short : length out ≤ 6
 
 -- a word, two numbers parted by one space, and byte 10

@@ -15,6 +15,13 @@ pub struct Printer<'a> {
     pub at: usize,
 }
 
+// What is still to come of the record at hand: so many of its two entries that tell the outgoing edges, and so many vertices.
+#[derive(Clone, Copy)]
+struct ToCome {
+    edge_entries: usize,
+    vertices: usize,
+}
+
 impl<'a> Printer<'a> {
     // A printer that has put nothing yet: its next byte goes to the buffer's start.
     pub fn new(bytes: &'a mut [u8]) -> Printer<'a>
@@ -51,21 +58,33 @@ impl<'a> Printer<'a> {
         self.put(Buffer::new().format(k).as_bytes());
     }
 
-    // Puts what is printed of one output entry, with so many vertices of the record at hand to come: "one line a group, vertices plus 1". With none
-    // to come it is the size of the next record. Answers how many are to come after it.
-    fn put_entry(&mut self, left: usize, entry: u16) -> usize
+    // Puts what is printed of one output entry: "one line a group, vertices plus 1". With nothing to come of the record at hand it is the size of the next
+    // record; of the two entries after a size nothing is printed. Answers what is to come after it.
+    fn put_entry(&mut self, to_come: ToCome, entry: u16) -> ToCome
         requires { Room self.old 6 }
-        ensures { EntryPut self.old left entry self.new result }
+        ensures { EntryPut self.old to_come entry self.new result }
     {
-        if left == 0 {
+        if 0 < to_come.edge_entries {
+            return ToCome {
+                edge_entries: to_come.edge_entries - 1,
+                ..to_come
+            };
+        }
+        if to_come.vertices == 0 {
             if entry == 0 {
                 self.put(b"\n");
             }
-            return usize::from(entry);
+            return ToCome {
+                edge_entries: 2,
+                vertices: usize::from(entry),
+            };
         }
         self.put_number(usize::from(entry) + 1);
-        self.put(if left == 1 { b"\n" } else { b" " });
-        left - 1
+        self.put(if to_come.vertices == 1 { b"\n" } else { b" " });
+        ToCome {
+            vertices: to_come.vertices - 1,
+            ..to_come
+        }
     }
 
     // Puts what is printed of a page's output entries. An entry takes 6 bytes at most.
@@ -73,9 +92,12 @@ impl<'a> Printer<'a> {
         requires { Room self.old (6 * length entries.now) }
         ensures { Puts self.old (printed entries.now) self.new }
     {
-        let mut left = 0;
+        let mut to_come = ToCome {
+            edge_entries: 0,
+            vertices: 0,
+        };
         for entry in entries {
-            left = self.put_entry(left, *entry);
+            to_come = self.put_entry(to_come, *entry);
         }
     }
 

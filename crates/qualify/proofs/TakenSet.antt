@@ -1,7 +1,7 @@
 -- Whether the taken set of a position with all ranks decided qualifies, from what the state of the walk keeps: the taken vertices, their degrees and the
 -- left neighbours of the pivot.
 -- Assumes nothing.
-use Prim.Native.Nat.{ℕ, zero, suc, ◌-◌, ◌≤◌, ◌<◌}
+use Prim.Native.Nat.{ℕ, zero, suc, ◌-◌, ◌*◌, ◌≤◌, ◌<◌}
 use mathlib.Core.Path.{◌≡◌, refl, sym, ap, ap₂, ◌∙◌, subst}
 use mathlib.Core.Bool.{Bool, true, false, ◌&&◌, not, cond, true≢false, false≢true}
 use mathlib.Core.List.{List, [], ◌∷◌, map}
@@ -13,24 +13,24 @@ use lib.ListN.{length, get_or, take, length-map}
 use lib.Seq.{take-suc, take-length}
 use borrow.Author.Tests.{eqb-false, eq-eqb}
 use Rattle.model.specs.Graph.{Graph, degree, rank_of, vertex_at}
-use Rattle.model.specs.Groups.{Settings, VertexSet, size_of}
+use Rattle.model.specs.Groups.{Settings, VertexSet}
 use Rattle.model.specs.Meaning.{In, Clique, Loopless, Symmetric}
 use Rattle.model.specs.Walk.{Position, has, found, due}
-use Rattle.model.specs.Listing.{is, adjacent, pivot, apart, taken_set, taken_list, record_of, rules}
+use Rattle.model.specs.Listing.{is, adjacent, pivot, apart, taken_set, taken_list, record_with, record_of, rules}
 use Rattle.theory.specs.Search.{common, Tally, degree_sum, least_degree, largest_degree, isolated_by, joined_all, Listed, among, Members, Candidates, beaten}
 use Rattle.theory.proofs.Basics.Tests.{test_and, test_self, fails, passes_or_fails, trichotomy}
 use Rattle.theory.proofs.Graph.Ranks.{rank_below, rank-once, rank-degree, vertex_at_lem, vertex_of}
-use Rattle.theory.proofs.Graph.Meaning.{qualifies_iff}
-use Rattle.theory.proofs.Graph.Degrees.{least-bound, largest_bound, least_member, largest_member}
+use Rattle.theory.proofs.Graph.Degrees.{least-bound, largest_bound, least_member, largest_member, outgoing-degrees}
 use Rattle.theory.proofs.Graph.Cliques.{common_test}
-use Rattle.theory.proofs.Basics.Passing.{passing-listed, passing-has, passing_rises, taken-members, map_at}
+use Rattle.theory.proofs.Basics.Passing.{passing-listed, passing-has, taken-members, taken_ranks_rise, map_at}
 use Rattle.theory.proofs.Walk.Moves.{has-found, has-none}
-use Rattle.theory.proofs.Search.Members.{tally-none, tally-next, tally-all, common-list}
+use Rattle.theory.proofs.Search.Members.{tally-none, tally-next, tally-all, counted, common-list}
 use Rattle.theory.proofs.Walk.Lawful.{apart_test}
+use Rattle.theory.proofs.Walk.Listing.{found_qualifies}
 use Rattle.theory.proofs.Search.Maximal.{qualifies-tally}
 use Rattle.state.specs.State.{taken_ranks, left_ranks, degrees_of}
 use Rattle.qualify.specs.Qualify.{joined_of, candidates_of}
-use Rattle.state.proofs.Taken.{degrees-none, degrees-more, taken_list_lem, taken-length, taken_at, taken-has, pivot-first}
+use Rattle.state.proofs.Taken.{degrees-none, degrees-more, taken-length, taken-has, pivot-first}
 
 -- ---- lists
 
@@ -83,27 +83,13 @@ module _ (G : Graph) (p : Position) where
   M : Members G S us
   M = taken-members G p
 
-  -- a member has the rank that it is taken at
-  rank-taken : (i : ℕ) → i < length us → rank_of G (get_or us i 0) ≡ get_or (taken_ranks G p) i 0
-  rank-taken i h =
-      let l = taken-length G p in
-      ap (λ (vs : List ℕ). rank_of G (get_or vs i 0)) (taken_list_lem G p)
-      ∙ ap (rank_of G) (map_at (vertex_at G) (taken_ranks G p) i (omega arith))
-      ∙ (vertex_at_lem G (get_or (taken_ranks G p) i 0) (taken_at G p i (omega arith)).0).1
-
   -- a vertex later in the list has no smaller degree
   degrees_rise : (i j : ℕ) → i ≤ j → j < length us → degree G (get_or us i 0) ≤ degree G (get_or us j 0)
-  unfolding taken_ranks
   degrees_rise i j h l =
       rank-degree G (get_or us i 0) (get_or us j 0) (M.sound j l).0 (at (trichotomy i j))
     where
       at : (i < j) ⊎ (i ≡ j) ⊎ (j < i) → rank_of G (get_or us i 0) ≤ rank_of G (get_or us j 0)
-      at (inl k) =
-          let a = rank-taken i (omega arith) in
-          let b = rank-taken j l in
-          let n = taken-length G p in
-          let m = passing_rises (is 1 p) G.size i j k (omega arith) in
-          omega arith
+      at (inl k) = let r = taken_ranks_rise G p i j k l in omega arith
       at (inr (inl e)) = let s = ap (λ (k : ℕ). rank_of G (get_or us k 0)) e in omega arith
       at (inr (inr k)) = absurd (omega arith)
 
@@ -132,24 +118,22 @@ module _ (G : Graph) (p : Position) where
         let d = x.2 in
         omega arith
 
-    -- how many the first i members are, and the sum of their degrees
-    sums : (i : ℕ) → i ≤ length us → (i ≡ size_of G (among (take i us))) × (degrees_of G (take i us) ≡ degree_sum G (among (take i us)))
-    sums zero h = let t = tally-none G in (t.members, degrees-none G ∙ t.summed)
+    -- the sum of the degrees of the first i members
+    sums : (i : ℕ) → i ≤ length us → degrees_of G (take i us) ≡ degree_sum G (among (take i us))
+    sums zero h = degrees-none G ∙ (tally-none G).summed
     sums (suc i) h =
-        let s = sums i (omega arith) in
-        let t = tally-next G S us M i (omega arith) i (degrees_of G (take i us)) _ _ (record { members = s.0; summed = s.1; lowest = refl; highest = refl }) in (
-          sym (add-one i) ∙ t.members ∙ ap (λ (k : ℕ). size_of G (among (take k us))) (add-one i),
-          ap (degrees_of G) (take-suc us i 0 (omega arith))
-              ∙ degrees-more G (take i us) (get_or us i 0)
-              ∙ t.summed
-              ∙ ap (λ (k : ℕ). degree_sum G (among (take k us))) (add-one i),
-        )
+        let c = (counted G S us M i (omega arith)).3 in
+        let t = tally-next G S us M i (omega arith) i (degrees_of G (take i us)) _ _ (record { members = c.members; summed = sums i (omega arith); lowest = refl; highest = refl }) in
+        ap (degrees_of G) (take-suc us i 0 (omega arith))
+        ∙ degrees-more G (take i us) (get_or us i 0)
+        ∙ t.summed
+        ∙ ap (λ (k : ℕ). degree_sum G (among (take k us))) (add-one i)
 
     -- the numbers of the taken set
     pub taken-tally : Tally G S (length us) (degrees_of G us) (degree G (get_or us 0 0)) (degree G (get_or us (length us - 1) 0))
     taken-tally =
-        let s = sums (length us) (omega arith) in
-        let t = tally-all G S us M _ _ _ _ (record { members = s.0; summed = s.1; lowest = refl; highest = refl }) in
+        let c = (counted G S us M (length us) (omega arith)).3 in
+        let t = tally-all G S us M _ _ _ _ (record { members = c.members; summed = sums (length us) (omega arith); lowest = refl; highest = refl }) in
         record { members = t.members; summed = ap (degrees_of G) (sym (take-length us)) ∙ t.summed; lowest = first-least; highest = last_largest }
 
     -- where no two taken ranks are not adjacent, the taken set is a clique
@@ -191,8 +175,7 @@ module _ (G : Graph) (p : Position) where
   -- a taken set that qualifies is a clique, so it has a member and no two taken ranks that are not adjacent
   module _ (s : Settings) where
     found-clique : found (rules G s) p ≡ true → Clique G S
-    unfolding found
-    found-clique f = ((qualifies_iff G s S).0 ((test_and {a = not (has 0 p)} test_self test_self).0 f).1).isolated_clique_lem.clique
+    found-clique f = (found_qualifies G s p f).isolated_clique_lem.clique
 
     pub found-apart : apart G p ≡ true → found (rules G s) p ≡ false
     found-apart e = fails (found (rules G s) p) (λ f. apart_no_clique e (found-clique f))
@@ -277,9 +260,22 @@ module _ (G : Graph) (p : Position) where
 -- ---- the entries of a group
 
 module _ (G : Graph) (s : Settings) (p : Position) where
-  pub due-found : found (rules G s) p ≡ true → due (rules G s) p ≡ length (taken_list G p) ∷ taken_list G p
+  -- where a group is found its record is due, with the outgoing edges as its members' degrees tell them
+  pub due-found : Loopless G → found (rules G s) p ≡ true
+      → due (rules G s) p
+      ≡ record_with (degrees_of G (taken_list G p) - length (taken_list G p) * (length (taken_list G p) - 1)) (taken_list G p)
   unfolding due record_of
-  due-found e = rw e
+  due-found loopless e =
+      rw e (ap (λ (k : ℕ). record_with k (taken_list G p)) (outgoing-degrees G loopless (taken_set G p) C ∙ ap₂ (λ (d k : ℕ). d - k * (k - 1)) (sym t.summed) (sym t.members)))
+    where
+      C : Clique G (taken_set G p)
+      C = found-clique G p s e
+
+      some : 0 < length (taken_list G p)
+      some = let m = (taken-members G p).complete C.nonempty.0 C.nonempty.1 in let l = m.1 in omega arith
+
+      t : Tally G (taken_set G p) (length (taken_list G p)) (degrees_of G (taken_list G p)) (degree G (get_or (taken_list G p) 0 0)) (degree G (get_or (taken_list G p) (length (taken_list G p) - 1) 0))
+      t = taken-tally G p some
 
   pub due-none : found (rules G s) p ≡ false → due (rules G s) p ≡ []
   unfolding due

@@ -16,7 +16,7 @@ stop_number Finished = stopped_finished
 stop_number Spent = stopped_spent
 stop_number (Full full) = stopped_full
 
--- and "the entries wanted (size + 1 at Full, else 0)"
+-- and the entries wanted, size + 3 at Full (document 02, C-14), else 0
 abbrev pub wanted_at : Stop → ℕ
 wanted_at Finished = 0
 wanted_at Spent = 0

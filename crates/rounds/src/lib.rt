@@ -26,7 +26,7 @@ pub enum Stop {
 }
 
 impl Stop {
-    // The entries that the next group wants: its size + 1 at Full, else 0.
+    // The entries that the next group wants: its size + 3 at Full, document 02, C-14, else 0.
     fn wanted(self) -> usize
         ensures { result ≡ wanted_at self }
     {
@@ -60,7 +60,8 @@ pub struct Page {
 }
 
 // The answer of a page call: its refusal number, 0 where it is accepted, and what it did.
-// Document 01, "A page": the answer holds refusal number 0, the stop, groups, entries used, steps, and the entries wanted (size + 1 at Full, else 0).
+// Document 01, "A page": the answer holds refusal number 0, the stop, groups, entries used, steps, and the entries wanted, which are size + 3 at Full
+// (document 02, C-14), else 0.
 #[repr(C)]
 #[derive(Clone, Copy, Debug, Default, PartialEq, Eq)]
 pub struct PageAnswer {

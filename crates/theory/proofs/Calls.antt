@@ -6,6 +6,7 @@ pub mod Faults
 pub mod DeadPosition
 pub mod Acceptance
 pub mod Bounds
+pub mod Full
 pub mod Next
 pub mod Pages
 pub mod OneGraph

@@ -7,6 +7,7 @@ pub mod Accepted
 pub mod Visited
 pub mod Walking
 pub mod Listing
+pub mod Records
 pub mod Moves
 pub mod Scans
 pub mod Rounds

@@ -4,18 +4,21 @@ use Rattle.std.specs.Prelude.{ℕ, zero, suc, ◌≡◌, List, [], ◌∷◌, �
 use Rattle.model.specs.Calls.{PageReply}
 use Rattle.model.specs.Program.{numeral}
 
--- what is printed of output entries with so many vertices of the record at hand still to come: a space between two of them, byte 10 after the last
-unfoldable pub printed_from : ℕ → List ℕ → List ℕ
-printed_from zero [] = []
-printed_from zero (zero ∷ es) = 10 ∷ printed_from zero es
-printed_from zero (suc k ∷ es) = printed_from (suc k) es
-printed_from (suc k) [] = []
-printed_from (suc zero) (v ∷ es) = numeral (suc v) ++ (10 ∷ printed_from zero es)
-printed_from (suc (suc k)) (v ∷ es) = numeral (suc v) ++ (32 ∷ printed_from (suc k) es)
+-- What is printed of output entries where so many of the two entries that tell the outgoing edges of the record at hand are still to come, and so many
+-- of its vertices: a space between two vertices, and byte 10 after the last of them. Document 02, C-14: "The program prints no edge counts."
+unfoldable pub printed_from : ℕ → ℕ → List ℕ → List ℕ
+printed_from (suc k) left [] = []
+printed_from (suc k) left (e ∷ es) = printed_from k left es
+printed_from zero zero [] = []
+printed_from zero zero (zero ∷ es) = 10 ∷ printed_from 2 zero es
+printed_from zero zero (suc k ∷ es) = printed_from 2 (suc k) es
+printed_from zero (suc k) [] = []
+printed_from zero (suc zero) (v ∷ es) = numeral (suc v) ++ (10 ∷ printed_from zero zero es)
+printed_from zero (suc (suc k)) (v ∷ es) = numeral (suc v) ++ (32 ∷ printed_from zero (suc k) es)
 
 -- what is printed of a page's output entries: a line for each record
 unfoldable pub printed : List ℕ → List ℕ
-printed es = printed_from 0 es
+printed es = printed_from 0 0 es
 
 -- what is printed page by page: of each reply its used entries
 unfoldable pub printed_pages : List PageReply → List ℕ

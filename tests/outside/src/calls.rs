@@ -1,5 +1,5 @@
-//! What page, set query and edits reply, as document 01 and request C-12 word it: refusals in their order, then the page's
-//! five points, or the pair and its degrees.
+//! What page, set query and edits reply, as document 01 and requests C-12 and C-14 word it: refusals in their order, then
+//! the page's five points, or the pair and its degrees.
 
 use crate::graph::Graph;
 use crate::groups::{record, FullList, Settings};
@@ -85,7 +85,7 @@ pub fn page(request: &PageRequest, list: &FullList) -> PageReply {
         }
         let set = walk.taken(&position);
         if walk.decided(&position) && list.has(&set) {
-            let record = record(&set);
+            let record = record(&graph, &set);
             if record.len() > output.len() - answer.used {
                 answer.wanted = record.len();
                 break 3;

@@ -72,8 +72,7 @@ impl Reference {
         let places = (0..sets.len()).filter(|&place| isolated[place] && !below[place]);
         let mut groups: Vec<Vec<usize>> = places.map(|place| self.by_rank(&sets[place])).collect();
         groups.sort_by(|a, b| self.earlier(a, b));
-        let members = groups.iter().cloned().collect();
-        FullList { groups, members }
+        FullList::of(&self.graph, groups)
     }
 
     fn by_rank(&self, set: &[usize]) -> Vec<usize> {
@@ -99,21 +98,38 @@ impl Reference {
 pub struct FullList {
     pub groups: Vec<Vec<usize>>,
     members: HashSet<Vec<usize>>,
+    entries: Vec<u16>,
 }
 
 impl FullList {
+    /// These groups of a graph, each with its vertices in rank order.
+    pub fn of(graph: &Graph, groups: Vec<Vec<usize>>) -> FullList {
+        let members = groups.iter().cloned().collect();
+        let entries = groups.iter().flat_map(|group| record(graph, group)).collect();
+        FullList { groups, members, entries }
+    }
+
     /// Is this set, with its vertices in rank order, in the list?
     pub fn has(&self, set: &[usize]) -> bool {
         self.members.contains(set)
     }
 
     /// The records end to end.
-    pub fn entries(&self) -> Vec<u16> {
-        self.groups.iter().flat_map(|group| record(group)).collect()
+    pub fn entries(&self) -> &[u16] {
+        &self.entries
     }
 }
 
-/// A group's size and then its vertices in rank order.
-pub fn record(group: &[usize]) -> Vec<u16> {
-    std::iter::once(group.len()).chain(group.iter().copied()).map(|entry| u16::try_from(entry).unwrap()).collect()
+/// The outgoing edges of a set: the bytes 1 of the table in the rows of members and the columns of others.
+pub fn outgoing_edges(graph: &Graph, set: &[usize]) -> usize {
+    let mut member = vec![false; graph.n];
+    set.iter().for_each(|&v| member[v] = true);
+    set.iter().map(|&u| (0..graph.n).filter(|&v| !member[v] && graph.joined(u, v)).count()).sum()
+}
+
+/// A group's size, its outgoing edges div 65,536, the rest, and then its vertices in rank order: document 02, C-14.
+pub fn record(graph: &Graph, group: &[usize]) -> Vec<u16> {
+    let edges = outgoing_edges(graph, group);
+    let entries = [group.len(), edges / 65_536, edges % 65_536].into_iter().chain(group.iter().copied());
+    entries.map(|entry| u16::try_from(entry).unwrap()).collect()
 }

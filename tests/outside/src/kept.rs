@@ -64,7 +64,7 @@ impl Kept {
     /// A page call over the lent memory.
     pub fn page(&self, random: &mut Random, settings: Settings, position: &[u8]) -> PageRequest {
         let most = if self.n > 14 { 200 * self.n } else { 200 };
-        let (entries, budget) = (self.n + 1 + random.below(20), random.between(1, most) as u32);
+        let (entries, budget) = (self.n + 3 + random.below(20), random.between(1, most) as u32);
         let mut request = PageRequest::fresh(random, &Graph::empty(self.n), settings, entries, budget);
         (request.table, request.degrees) = (self.table.clone(), self.degrees.clone());
         request.position = position.to_vec();

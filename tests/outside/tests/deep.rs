@@ -42,7 +42,7 @@ fn lists_with_deep_sets() {
             let entries = list.entries();
             let mut request = PageRequest::fresh(random, &reference.graph, settings, entries.len() + 2, u32::MAX);
             let expected = calls::page(&request, &list);
-            assert_eq!((expected.answer.stop, &expected.output[..entries.len()]), (1, &entries[..]), "the reference");
+            assert_eq!((expected.answer.stop, &expected.output[..entries.len()]), (1, entries), "the reference");
             for contents in [None, Some(0), Some(u16::MAX)] {
                 contents.into_iter().for_each(|entry| request.work.fill(entry));
                 assert_eq!(library::page(&request), expected, "{:?} at {settings:?}", reference.graph);

@@ -220,11 +220,11 @@ fn edits_of_1024_vertices() {
         }
         let settings = Settings::any(random, 1);
         let list = Reference::of(graph).full_list(settings);
-        let mut request = PageRequest::fresh(random, &kept.graph(), settings, 4096, u32::MAX);
+        let mut request = PageRequest::fresh(random, &kept.graph(), settings, 8192, u32::MAX);
         (request.table, request.degrees) = (kept.table.clone(), kept.degrees.clone());
         let reply = library::page(&request);
         assert_eq!((reply.answer.refusal, reply.answer.stop), (0, 1), "{settings:?}");
-        assert_eq!(reply.output[..reply.answer.used], list.entries(), "{settings:?}");
+        assert_eq!(&reply.output[..reply.answer.used], list.entries(), "{settings:?}");
     });
 }
 

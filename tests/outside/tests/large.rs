@@ -105,10 +105,10 @@ fn the_largest_complete_graph() {
     let graph = samples::complete(1024);
     for settings in [1, 1023, 1024].into_iter().flat_map(Settings::all) {
         let reply = library::page(&PageRequest::fresh(&mut random, &graph, settings, 1030, 1025));
-        let expected = PageAnswer { refusal: 0, stop: 2, groups: 1, steps: 1025, used: 1025, wanted: 0 };
+        let expected = PageAnswer { refusal: 0, stop: 2, groups: 1, steps: 1025, used: 1027, wanted: 0 };
         assert_eq!(reply.answer, expected, "{settings:?}");
-        assert_eq!(reply.output[0], 1024);
-        assert!(reply.output[1..1025].iter().enumerate().all(|(v, &entry)| usize::from(entry) == v));
+        assert_eq!(reply.output[..3], [1024, 0, 0]);
+        assert!(reply.output[3..1027].iter().enumerate().all(|(v, &entry)| usize::from(entry) == v));
         for (missing, yes) in [(0, 1), (1, 0)] {
             let mut set = vec![1; 1024];
             set[..missing].fill(0);
@@ -124,13 +124,13 @@ fn the_widest_record() {
     let mut random = Random::new(8);
     let graph = samples::complete(1024);
     let settings = Settings { notion: 2, kind: 0, c: 1 };
-    let short = library::page(&PageRequest::fresh(&mut random, &graph, settings, 1024, 5000));
-    assert_eq!(short.answer, PageAnswer { stop: 3, steps: 1024, wanted: 1025, ..PageAnswer::default() });
+    let short = library::page(&PageRequest::fresh(&mut random, &graph, settings, 1026, 5000));
+    assert_eq!(short.answer, PageAnswer { stop: 3, steps: 1024, wanted: 1027, ..PageAnswer::default() });
     assert_eq!(short.position, vec![1; 1024]);
-    let enough = library::page(&PageRequest::fresh(&mut random, &graph, settings, 1025, 1024));
+    let enough = library::page(&PageRequest::fresh(&mut random, &graph, settings, 1027, 1024));
     assert_eq!(enough.answer, PageAnswer { stop: 2, steps: 1024, ..PageAnswer::default() });
-    let enough = library::page(&PageRequest::fresh(&mut random, &graph, settings, 1025, 1025));
-    assert_eq!(enough.answer, PageAnswer { stop: 2, groups: 1, steps: 1025, used: 1025, ..PageAnswer::default() });
+    let enough = library::page(&PageRequest::fresh(&mut random, &graph, settings, 1027, 1025));
+    assert_eq!(enough.answer, PageAnswer { stop: 2, groups: 1, steps: 1025, used: 1027, ..PageAnswer::default() });
 }
 
 /// Refusals 1 to 5 and 42 of every call that takes a graph, at the last byte and the last degree of 1,024 vertices.

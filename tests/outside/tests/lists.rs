@@ -28,7 +28,7 @@ fn check_list(random: &mut Random, graph: &Graph, settings: Settings, list: &Ful
         used: entries.len(),
         wanted: 0,
     };
-    assert_eq!(reply.output[..entries.len()], entries, "the list of {graph:?} at {settings:?}");
+    assert_eq!(&reply.output[..entries.len()], entries, "the list of {graph:?} at {settings:?}");
     assert_eq!(reply.output[entries.len()..], request.output[entries.len()..], "unused output of {graph:?}");
     assert_eq!(reply.answer, answer, "the answer for {graph:?} at {settings:?}");
     assert_eq!(reply.position, vec![2; graph.n], "the position of {graph:?} at {settings:?}");

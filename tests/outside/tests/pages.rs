@@ -25,9 +25,9 @@ fn next_call(random: &mut Random, reference: &Reference, settings: Settings, pos
         _ => u32::MAX as usize,
     };
     let output = match random.below(4) {
-        0 => random.below(3),
-        1 => n + 1,
-        _ => random.below(6 * n + 8),
+        0 => random.below(5),
+        1 => n + 3,
+        _ => random.below(8 * n + 12),
     };
     let more = random.below(5);
     let mut request = PageRequest::fresh(random, &reference.graph, settings, output, budget as u32);
@@ -153,7 +153,7 @@ fn all_positions_of_three_ranks() {
             let list = reference.full_list(settings);
             for bytes in 0..64u8 {
                 let position = [bytes & 3, bytes >> 2 & 3, bytes >> 4];
-                for (budget, output) in [(0, 0), (1, 0), (2, 2), (3, 4), (100, 1), (100, 3), (100, 20)] {
+                for (budget, output) in [(0, 0), (1, 0), (2, 4), (3, 6), (100, 3), (100, 5), (100, 20)] {
                     let mut request = next_call(&mut random, &reference, settings, &position);
                     request.budget = budget;
                     request.output = random.entries(output);

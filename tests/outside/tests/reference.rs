@@ -34,6 +34,14 @@ fn qualifies(graph: &Graph, set: usize, settings: Settings) -> bool {
     isolated_clique(graph, set, settings) && !larger.into_iter().any(blocks)
 }
 
+/// The record of a set, of which the outgoing edges are those with one end in it; here they fit into the lower half.
+fn record(graph: &Graph, set: usize) -> Vec<u16> {
+    let crosses = |&(u, v): &(usize, usize)| set >> u & 1 != set >> v & 1;
+    let edges = graph.edges().into_iter().filter(crosses).count();
+    let vertices = graph.order().into_iter().filter(|v| set >> v & 1 == 1);
+    [members(set, graph.n).count(), 0, edges].into_iter().chain(vertices).map(|entry| entry as u16).collect()
+}
+
 /// Descending by the bits of the ranks, rank 0 the highest: then the first difference decides.
 fn by_rank(graph: &Graph, set: usize) -> usize {
     graph.order().iter().fold(0, |key, &v| 2 * key + (set >> v & 1))
@@ -51,7 +59,9 @@ fn the_reference_is_the_definitions() {
             let order = graph.order();
             let expected: Vec<Vec<usize>> =
                 sets.iter().map(|&set| order.iter().copied().filter(|v| set >> v & 1 == 1).collect()).collect();
-            assert_eq!(reference.full_list(settings).groups, expected, "{graph:?} at {settings:?}");
+            let list = reference.full_list(settings);
+            assert_eq!(list.groups, expected, "{graph:?} at {settings:?}");
+            assert_eq!(list.entries(), sets.iter().flat_map(|&set| record(&graph, set)).collect::<Vec<_>>());
         }
     });
 }

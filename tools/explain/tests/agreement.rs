@@ -195,7 +195,7 @@ fn sets_of_a_large_graph() {
     let mut room = Room::new(1024);
     for settings in all_settings([1, 2, 4]) {
         let groups = Groups::new(&table, &degrees, 1024, settings, &mut room).unwrap();
-        let groups: Vec<Vec<u16>> = groups.take(200).collect();
+        let groups: Vec<Vec<u16>> = groups.take(200).map(|group| group.vertices).collect();
         for _ in 0..20 {
             let mut set = Set::default();
             for &v in random.pick(&groups) {

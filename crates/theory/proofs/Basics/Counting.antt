@@ -4,7 +4,7 @@ use Prim.Native.Nat.{ℕ, zero, suc, ◌+◌, ◌*◌, ◌≤◌, ◌<◌, zero-
 use mathlib.Core.Path.{◌≡◌, refl, sym, ap, ◌∙◌}
 use mathlib.Core.Bool.{Bool, true, false, ◌&&◌, not, cond, true≢false, and-true, and-false}
 use mathlib.Core.Logic.{◌≢◌}
-use native.Mathlib.Nat.{not-suc-le-zero, lt-suc_self, le-suc, le_trans, le_of_eq, ne_of_lt, mul-zero, mul-suc, zero-add}
+use native.Mathlib.Nat.{not-suc-le-zero, lt-suc_self, le-suc, le_trans, le_of_eq, ne_of_lt, mul-zero, mul-suc, suc-mul, zero-add}
 use native.Mathlib.Numerals.{one-add}
 use native.Mathlib.Omega.{arith}
 use lib.Dec.{eqb}
@@ -111,6 +111,12 @@ count_split (suc n) p b = go (p n) (b n) (count_split n p b)
     go true true e = omega arith
     go true false e = omega arith
     go false y e = omega arith
+
+-- numbers of which none is over b add up to n times b at most
+pub total_most : (n b : ℕ) (f : ℕ → ℕ) → ((i : ℕ) → f i ≤ b) → total n f ≤ n * b
+unfolding total
+total_most zero b f h = zero-le
+total_most (suc n) b f h = let a = h n in let r = total_most n b f h in omega (arith, suc-mul n b)
 
 -- each member adds at least c
 pub total-least : (n c : ℕ) (p : ℕ → Bool) (f : ℕ → ℕ) → ((i : ℕ) → i < n → p i ≡ true → c ≤ f i) → c * count n p ≤ total n (λ i. cond (p i) (f i) 0)

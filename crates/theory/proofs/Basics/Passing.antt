@@ -156,6 +156,10 @@ module _ (G : Graph) (p : Position) where
   taken-rank : (i : ℕ) → i < length ranks → (get_or ranks i 0 < G.size) × (is 1 p (get_or ranks i 0) ≡ true)
   taken-rank i h = passing-listed (is 1 p) G.size (get_or ranks i 0) (i, h, refl)
 
+  -- a member has the rank that it is taken at
+  rank_taken : (i : ℕ) → i < length ranks → rank_of G (get_or (taken_list G p) i 0) ≡ get_or ranks i 0
+  rank_taken i h = ap (rank_of G) (taken_at i h) ∙ (vertex_at_lem G (get_or ranks i 0) (taken-rank i h).0).1
+
   taken_in : (r : ℕ) → r < G.size → is 1 p r ≡ true → In G (taken_set G p) (vertex_at G r)
   unfolding taken_set
   taken_in r h e = ((vertex_at_lem G r h).0, ap (is 1 p) (vertex_at_lem G r h).1 ∙ e)
@@ -185,3 +189,12 @@ module _ (G : Graph) (p : Position) where
         complete = taken-listed;
         once = λ i j hi hj. taken-once i j (omega arith) (omega arith);
       }
+
+  -- and their ranks rise
+  pub taken_ranks_rise : (i j : ℕ) → i < j → j < length (taken_list G p) → rank_of G (get_or (taken_list G p) i 0) < rank_of G (get_or (taken_list G p) j 0)
+  taken_ranks_rise i j h l =
+      let m = taken-length in
+      let e = rank_taken i (omega arith) in
+      let f = rank_taken j (omega arith) in
+      let r = passing_rises (is 1 p) G.size i j h (omega arith) in
+      omega arith

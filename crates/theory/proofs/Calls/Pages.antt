@@ -9,22 +9,25 @@ use mathlib.Core.Logic.{◌↔◌, ◌≢◌, ◌⊎◌, inl, inr, ⊎_elim}
 use native.Mathlib.Nat.{zero-add, suc-add, le_trans}
 use borrow.Author.Tests.{le-ltb}
 use native.Mathlib.Omega.{arith}
-use lib.ListN.{length, take, drop, length-append, length-map}
+use lib.ListN.{length, take, drop, length-append}
 use lib.Seq.{take_at}
 use lib.Dec.{ltb}
-use Rattle.model.specs.Below.{bit, passing}
-use Rattle.model.specs.Graph.{Graph, vertex_at}
-use Rattle.model.specs.Groups.{Settings, VertexSet}
-use Rattle.model.specs.Meaning.{Qualifies}
+use Rattle.model.specs.Below.{bit}
+use Rattle.model.specs.Graph.{Graph}
+use Rattle.model.specs.Groups.{Settings, VertexSet, size_of}
+use Rattle.model.specs.Meaning.{Qualifies, Lists}
 use Rattle.model.specs.Walk.{Position, Rules, Page, halt, onward, fresh, finished, step, after, lasts, found, due, groups_of, records, full_sets, full_list, page, stopped_finished, stopped_full, stopped_spent}
-use Rattle.model.specs.Listing.{is, rules, taken_list, record_of, record_length}
+use Rattle.model.specs.Listing.{taken_set, rules, record_with, record_of, record_length}
 use Rattle.model.specs.Calls.{Call, PageReply, refuse_page, reply_of, reply_to}
 use Rattle.model.specs.Demand.{replies, left_at, joined_output, all_steps, all_groups, Agree, Prefix, SaidFinished, SomeFinished, Demand3, Each, MakesStep, Idle, RefusedIdle, Demanded}
+use Rattle.model.specs.Records.{Recorded, RecordsMade}
 use Rattle.theory.specs.Replies.{gone, Went, Replied, Chain}
-use Rattle.theory.proofs.Basics.Tests.{lt_or_ge}
+use Rattle.theory.proofs.Basics.Tests.{lt_or_ge, count_le}
+use Rattle.theory.proofs.Basics.Passing.{no_entries}
 use Rattle.theory.proofs.Calls.Acceptance.{PageAccepted, page-passes_iff}
 use Rattle.theory.proofs.Calls.Bounds.{page_bounds}
 use Rattle.theory.proofs.Walk.Listing.{lists}
+use Rattle.theory.proofs.Walk.Records.{record_long, records_say}
 use Rattle.theory.proofs.Walk.Lawful.{lawful}
 use Rattle.theory.proofs.Walk.Remaining.{remaining, fresh-fit}
 use Rattle.theory.proofs.Walk.Walk.{Lawful, gone-first, gone-left, remaining_kept, groups_member, records-append, finished-done, after_valid, after-add}
@@ -223,7 +226,7 @@ module _ (R : Rules) where
 -- ---- no output means that no set qualifies
 
 records-none : (G : Graph) (s : Settings) (ps : List Position) → records (rules G s) ps ≡ [] → ps ≡ []
-unfolding records record_of
+unfolding records record_with record_of
 records-none G s [] e = refl
 records-none G s (p ∷ ps) e = let z = ap length e in absurd (omega arith)
 
@@ -235,6 +238,29 @@ none_left G s rs d f e S q =
     let m = (lists G s).complete S q in
     Memᴰ.not-nil
     (subst (Memᴰ m.0) (records-none G s (full_sets (rules G s) G.size) (sym (d.whole f).0 ∙ e)) m.1)
+
+-- ---- document 02, C-14: what the records of the joined output say
+
+module _ (G : Graph) (s : Settings) (rs : List PageReply) (d : Demand3 (rules G s) G.size rs) where
+  -- once Finished is said nothing of the full list is missing
+  pub none-missing : SomeFinished rs → d.listed.rest ≡ []
+  unfolding full_list
+  none-missing f =
+      let a = ap length (sym d.listed.entries ∙ (d.whole f).0 ∙ ap (records (rules G s)) d.listed.first ∙ records-append (rules G s) d.listed.front d.listed.rest) in
+      let b = length-append (records (rules G s) d.listed.front) (records (rules G s) d.listed.rest) in
+      records-none G s d.listed.rest (no_entries (records (rules G s) d.listed.rest) (omega arith))
+
+  -- The records are of the first sets that qualify, in order, and each says what its set is.
+  pub records_made : G.size ≤ 1024 → RecordsMade G s rs
+  records_made small =
+      record {
+        sets = d.listed.front;
+        rest = d.listed.rest;
+        lists = subst (Lists G s) d.listed.first (lists G s);
+        recorded = subst⁻¹ (Recorded G d.listed.front) d.listed.entries (records_say G small s d.listed.front);
+        number = d.listed.number;
+        whole = none-missing;
+      }
 
 -- ---- the page calls of document 01
 
@@ -263,21 +289,9 @@ call_idle c p = reply_idle (refuse_page c.lent c.settings p c.work) _ p c.output
 
 -- ---- progress: with a budget of 1 or more and room for the largest record, a page from an unfinished position makes a step
 
-passing-length : (n : ℕ) (p : ℕ → Bool) → length (passing n p) ≤ n
-unfolding passing
-passing-length zero p = zero-le
-passing-length (suc n) p = go (p n) (passing-length n p)
-  where
-    go : (b : Bool) → length (passing n p) ≤ n → length (passing n p ++ cond b (n ∷ []) []) ≤ suc n
-    go true h = omega (arith, length-append (passing n p) (n ∷ []))
-    go false h = omega (arith, length-append (passing n p) [])
-
 record_length_lem : (G : Graph) (p : Position) → length (record_of G p) ≤ record_length G.size
-unfolding record_of taken_list
-record_length_lem G p =
-    let a = passing-length G.size (is 1 p) in
-    let b = length-map (passing G.size (is 1 p)) (vertex_at G) in
-    omega arith
+unfolding size_of
+record_length_lem G p = let l = record_long G p in let c = count_le G.size (taken_set G p) in omega arith
 
 -- with a budget and room for the largest group, a page on an unfinished walk makes a step
 pub progress : (G : Graph) (s : Settings) (budget room : ℕ) (p : Position) → record_length G.size ≤ room → finished p ≡ false

@@ -6,27 +6,27 @@ use mathlib.Core.List.{List, [], ◌∷◌, ◌++◌, append_assoc, append-nil}
 use native.Mathlib.Omega.{arith}
 use lib.ListN.{length, take}
 use Rattle.model.specs.Graph.{Graph}
-use Rattle.model.specs.Groups.{Settings}
+use Rattle.model.specs.Groups.{Settings, outgoing}
 use Rattle.model.specs.Walk.{Position, records, full_sets, full_list}
-use Rattle.model.specs.Listing.{taken_list, record_of, rules}
+use Rattle.model.specs.Listing.{taken_set, taken_list, record_with, record_of, rules}
 use Rattle.model.specs.Calls.{PageReply}
 use Rattle.model.specs.Demand.{joined_output}
 use Rattle.model.specs.Program.{numeral, group_line, group_lines, held}
 use Rattle.theory.specs.Replies.{gone, Chain}
 use Rattle.theory.specs.Printed.{printed_from, printed, printed_pages}
 
-vertices-printed : (v : ℕ) (vs rest : List ℕ) → printed_from (suc (length vs)) (v ∷ (vs ++ rest)) ≡ group_line (v ∷ vs) ++ printed_from 0 rest
+vertices-printed : (v : ℕ) (vs rest : List ℕ) → printed_from 0 (suc (length vs)) (v ∷ (vs ++ rest)) ≡ group_line (v ∷ vs) ++ printed_from 0 0 rest
 unfolding printed_from group_line
-vertices-printed v [] rest = sym (append_assoc (numeral (suc v)) (10 ∷ []) (printed_from 0 rest))
+vertices-printed v [] rest = sym (append_assoc (numeral (suc v)) (10 ∷ []) (printed_from 0 0 rest))
 vertices-printed v (w ∷ vs) rest =
     ap (λ (l : List ℕ). numeral (suc v) ++ (32 ∷ l)) (vertices-printed w vs rest)
-    ∙ sym (append_assoc (numeral (suc v)) (32 ∷ group_line (w ∷ vs)) (printed_from 0 rest))
+    ∙ sym (append_assoc (numeral (suc v)) (32 ∷ group_line (w ∷ vs)) (printed_from 0 0 rest))
 
--- a record is printed as its group's line
-pub record_printed : (vs rest : List ℕ) → printed (length vs ∷ (vs ++ rest)) ≡ group_line vs ++ printed rest
-unfolding printed printed_from group_line
-record_printed [] rest = refl
-record_printed (v ∷ vs) rest = vertices-printed v vs rest
+-- a record is printed as its group's line, whatever its outgoing edges
+pub record_printed : (edges : ℕ) (vs rest : List ℕ) → printed (record_with edges vs ++ rest) ≡ group_line vs ++ printed rest
+unfolding printed printed_from record_with group_line
+record_printed edges [] rest = refl
+record_printed edges (v ∷ vs) rest = vertices-printed v vs rest
 
 module _ (G : Graph) (s : Settings) where
   records_then : (ps : List Position) (es : List ℕ) → printed (records (rules G s) ps ++ es) ≡ group_lines G ps ++ printed es
@@ -34,7 +34,7 @@ module _ (G : Graph) (s : Settings) where
   records_then [] es = refl
   records_then (p ∷ ps) es =
       ap printed (append_assoc (record_of G p) (records (rules G s) ps) es)
-      ∙ record_printed (taken_list G p) (records (rules G s) ps ++ es)
+      ∙ record_printed (outgoing G (taken_set G p)) (taken_list G p) (records (rules G s) ps ++ es)
       ∙ ap (λ (l : List ℕ). group_line (taken_list G p) ++ l) (records_then ps es)
       ∙ sym (append_assoc (group_line (taken_list G p)) (group_lines G ps) (printed es))
 

@@ -11,10 +11,10 @@ use lib.ListN.{length, take, replicate, length-append}
 use lib.Dec.{ltb}
 use borrow.Author.Tests.{lt-ltb, le-ltb}
 use Rattle.model.specs.Compute.{compute}
-use Rattle.model.specs.Graph.{Graph, by_table}
+use Rattle.model.specs.Graph.{by_table}
 use Rattle.model.specs.Groups.{Settings}
-use Rattle.model.specs.Walk.{Position, fresh, records, full_sets, full_list}
-use Rattle.model.specs.Listing.{record_of, rules}
+use Rattle.model.specs.Walk.{fresh, full_sets}
+use Rattle.model.specs.Listing.{rules}
 use Rattle.model.specs.Calls.{refuse_table, refuse_settings, PageReply}
 use Rattle.model.specs.Demand.{all_steps, all_groups, SomeFinished, Demand3}
 use Rattle.model.specs.Fault.{FirstFault}
@@ -24,9 +24,8 @@ use Rattle.model.specs.Program.{Words, wrong, chosen, Verdict, refusal, listing,
 use Rattle.theory.specs.Replies.{Chain}
 use Rattle.theory.specs.Printed.{printed, printed_pages, Begins}
 use Rattle.theory.proofs.Walk.Ends.{walk_ends, length-once}
-use Rattle.theory.proofs.Walk.Walk.{records-append}
 use Rattle.theory.proofs.Calls.TableFaults.{table-simple}
-use Rattle.theory.proofs.Calls.Pages.{chain_demand}
+use Rattle.theory.proofs.Calls.Pages.{chain_demand, none-missing}
 use Rattle.theory.proofs.Walk.Lawful.{lawful}
 use Rattle.theory.proofs.Program.Printed.{list-printed, lines-append, pages-printed, records-printed}
 use Rattle.theory.proofs.Calls.Fault.{never_first}
@@ -180,11 +179,6 @@ prints_some words text = at_some (program_verdict words text) (verdict_listable 
 
 -- ---- page by page
 
-no_records : (G : Graph) (s : Settings) (ps : List Position) → length (records (rules G s) ps) ≡ 0 → length ps ≡ 0
-unfolding records record_of
-no_records G s [] e = refl
-no_records G s (p ∷ ps) e = absurd (omega arith)
-
 module _ (s : Settings) (n : ℕ) (t : List ℕ) (valid : refuse_table n t ≡ 0) (rs : List PageReply)
     (chain : Chain (rules (by_table n t) s) (fresh n) rs) where
   demand : Demand3 (rules (by_table n t) s) n rs
@@ -204,13 +198,9 @@ module _ (s : Settings) (n : ℕ) (t : List ℕ) (valid : refuse_table n t ≡ 0
   module _ (ended : SomeFinished rs) where
     -- replies that end the walk have reported every group
     pub all_groups_lem : all_groups rs ≡ length (full_sets (rules (by_table n t) s) n)
-    unfolding full_list
     all_groups_lem =
-        let R = rules (by_table n t) s in
         let d = demand.listed in
-        let a = ap length (sym d.entries ∙ (demand.whole ended).0 ∙ ap (records R) d.first ∙ records-append R d.front d.rest) in
-        let b = length-append (records R d.front) (records R d.rest) in
-        let z = no_records (by_table n t) s d.rest (omega arith) in
+        let z = ap length (none-missing (by_table n t) s rs demand ended) in
         let c = ap length d.first ∙ length-append d.front d.rest in
         let g = d.number in
         omega arith

@@ -1,6 +1,6 @@
 -- The members of a set as a list, with their numbers and their common neighbours, as loops over the list or over all vertices keep them.
 -- Assumes nothing.
-use Prim.Native.Nat.{ℕ, zero, suc, ◌+◌, ◌<◌, min, max}
+use Prim.Native.Nat.{ℕ, zero, suc, ◌+◌, ◌≤◌, ◌<◌, min, max}
 use mathlib.Core.Path.{◌≡◌, refl, sym, ap, ◌∙◌, subst}
 use mathlib.Core.Bool.{true, false}
 use mathlib.Core.List.{List, [], ◌∷◌, ◌++◌}
@@ -101,6 +101,18 @@ module _ (G : Graph) (S : VertexSet) (us : List ℕ) (M : Members G S us) where
       same v h =
           ap (λ (l : List ℕ). among l v) (take-length us)
           ∙ test_agree (among_test us v) test_self (λ m. ap S (sym m.2) ∙ (M.sound m.0 m.1).1) (λ e. M.complete v (h, e))
+
+  -- some numbers are the tally of the first i members, of which there are i
+  abbrev pub Counted : ℕ → Type 0
+  Counted i = (sum : ℕ) × (least : ℕ) × (largest : ℕ) × Tally G (among (take i us)) i sum least largest
+
+  pub counted : (i : ℕ) → i ≤ length us → Counted i
+  counted zero h = (0, G.size, 0, tally-none G)
+  counted (suc i) h = let t = counted i (omega arith) in subst Counted (add-one i) (_, _, _, tally-next i (omega arith) i t.0 t.1 t.2 t.3)
+
+  -- so the list is as long as the set is large
+  pub members-long : length us ≡ size_of G S
+  members-long = let t = counted (length us) (omega arith) in (tally-all (length us) t.0 t.1 t.2 t.3).members
 
   -- a common neighbour is a vertex that is joined to each in the list
   pub common-list : Loopless G → (v : ℕ) → v < G.size → common G S v ≡ joined_all G v us

@@ -119,6 +119,11 @@ marks_at_lem (suc n) f zero h = go (f zero)
 marks_at_lem (suc n) f (suc r) h = marks_at_lem n (λ i. f (suc i)) r (omega arith)
 
 module _ (G : Graph) (s : Settings) where
+  -- the set of a group that is found qualifies
+  pub found_qualifies : (p : Position) → found (rules G s) p ≡ true → Qualifies G s (taken_set G p)
+  unfolding found
+  found_qualifies p e = (qualifies_iff G s (taken_set G p)).0 ((test_and {a = decided p} test_self test_self).0 e).1
+
   -- sets that agree on the vertices qualify together
   qualifies-same : (S M : VertexSet) → ((v : ℕ) → v < G.size → M v ≡ S v) → Qualifies G s S → Qualifies G s M
   qualifies-same S M same q =
@@ -142,7 +147,7 @@ module _ (G : Graph) (s : Settings) where
   unfolding full_sets found taken_set
   lists =
       record {
-        sound = λ p m. (qualifies_iff G s (taken_set G p)).0 ((test_and {a = decided p} test_self test_self).0 (groups_member (rules G s) (all_decided G.size) p m).1).1;
+        sound = λ p m. found_qualifies p (groups_member (rules G s) (all_decided G.size) p m).1;
         complete = λ S q. (place S, in_groups (rules G s) (all_decided G.size) (place S) (marks_member G.size _) (is_found S q), agrees S);
         ordered = ordered-groups (rules G s) (all_decided G.size) (ordered-all G.size);
       }

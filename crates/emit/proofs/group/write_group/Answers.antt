@@ -1,4 +1,4 @@
--- `emit::group::write_group` meets its contract: the size, and right after it the vertices.
+-- `emit::group::write_group` meets its contract: the size, the two entries of the outgoing edges, and right after them the vertices.
 -- Assumes nothing.
 use Prim.Native.Nat.{◌+◌, ◌-◌}
 use mathlib.Core.Path.{◌≡◌}
@@ -10,5 +10,5 @@ use Rattle.emit.proofs.group.write_group.Goals as goal
 pub returns : goal.returns
 returns c =
     let vs = c.args.vertices.now in
-    let e : length vs + 1 - 1 ≡ length vs = omega arith in
-    rw (e, c.copy_from_slice.ensures.after) (group_put c.args.out.now vs (omega arith))
+    let e : length vs + 3 - 3 ≡ length vs = omega arith in
+    rw (e, c.copy_from_slice.ensures.after) (group_put c.args.out.now vs c.args.edges (omega arith))

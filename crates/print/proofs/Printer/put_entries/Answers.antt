@@ -7,7 +7,7 @@ pub loop-entry-init : goal.loop-entry-init
 loop-entry-init c = so_none (omega arith)
 
 pub loop-entry-preserved : goal.loop-entry-preserved
-loop-entry-preserved c = so_more c.loop-entry.invariant (omega arith) c.put_entry-left.ensures
+loop-entry-preserved c = so_more c.loop-entry.invariant (omega arith) c.put_entry-to_come.ensures
 
 pub returns : goal.returns
 returns c = so_all c.loop-entry.invariant (omega arith)

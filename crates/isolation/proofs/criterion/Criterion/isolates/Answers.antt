@@ -10,7 +10,7 @@ returns-in-Min c =
 
 pub returns-in-Avg : goal.returns-in-Avg
 returns-in-Avg c =
-    isolated_avg_lem _ _ _ _ _ _ (rw c.in-Avg.is refl) c.saturating_sub-others.ensures c.saturating_sub-in-Avg.ensures c.within-in-Avg.ensures
+    isolated_avg_lem _ _ _ _ _ _ (rw c.in-Avg.is refl) c.outgoing.ensures c.within-in-Avg.ensures
 
 pub returns-in-Max : goal.returns-in-Max
 returns-in-Max c =
