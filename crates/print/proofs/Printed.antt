@@ -39,18 +39,15 @@ unfolding printed_from
 size-goes zero d es = absurd (d refl)
 size-goes (suc e) d es = refl
 
+-- one or more, less one
+one_less : (k : ℕ) → k ≡ suc k - 1
+one_less k = omega arith
+
 -- an entry that tells outgoing edges
 edges-go : (edges left e : ℕ) → 0 < edges → (es : List ℕ) → printed_from edges left (e ∷ es) ≡ [] ++ printed_from (edges - 1) left es
 unfolding printed_from
 edges-go zero left e h es = absurd (omega arith)
-edges-go (suc edges) left e h es = ap (λ (k : ℕ). printed_from k left es) (one_off edges)
-  where
-    one_off : (k : ℕ) → k ≡ suc k - 1
-    one_off k = omega arith
-
--- two or more, less one
-one_less : (k : ℕ) → suc k ≡ suc (suc k) - 1
-one_less k = omega arith
+edges-go (suc edges) left e h es = ap (λ (k : ℕ). printed_from k left es) (one_less edges)
 
 -- a vertex
 vertex-goes : (left e : ℕ) → left ≢ 0 → (es : List ℕ)
@@ -63,7 +60,7 @@ vertex-goes (suc (suc k)) e d es =
     ap (λ (m : ℕ). numeral m ++ (32 ∷ printed_from 0 (suc k) es)) (sym (add-one e))
     ∙ sym (append_assoc (numeral (e + 1)) (32 ∷ []) (printed_from 0 (suc k) es))
     ∙ ap₂ (λ (z l : ℕ). (numeral (e + 1) ++ (z ∷ [])) ++ printed_from 0 l es)
-    (sym (ap (λ (b : Bool). cond {A = ℕ} b 10 32) (ne_eqb (suc (suc k)) 1 (λ z. omega arith)))) (one_less k)
+    (sym (ap (λ (b : Bool). cond {A = ℕ} b 10 32) (ne_eqb (suc (suc k)) 1 (λ z. omega arith)))) (one_less (suc k))
 
 -- nothing is put of an entry that tells outgoing edges
 pub put_edges : {p : Printer} {t : ToCome} (e : ℕ) → 0 < t.edge_entries → Room p 0 → EntryPut p t e p (record { edge_entries = t.edge_entries - 1; vertices = t.vertices })
