@@ -1,12 +1,13 @@
 /*
  * isolated.h: the isolated cliques of a graph.
  *
- * Six calls. isolated_page() walks a graph and lists its groups, as many at a time as the caller likes;
+ * Seven calls. isolated_page() walks a graph and lists its groups, as many at a time as the caller likes;
  * isolated_set_query() says whether one set is such a group; isolated_join() and isolated_part() change one pair of
- * the graph; isolated_degrees() counts its degrees; isolated_read_text() reads a graph in the DIMACS edge layout. No
- * call allocates, keeps anything between two calls or touches memory other than what it is lent. Every reply, and the
- * contents of all lent memory after the call, follow from the arguments alone; the one exception is the contents of an
- * accepted work slice, which are left open.
+ * the graph; isolated_degrees() counts its degrees; isolated_read_text() reads a graph in the DIMACS edge layout into
+ * a byte table; isolated_pack() packs that into the table which the five others take. No call allocates, keeps
+ * anything between two calls or touches memory other than what it is lent. Every reply, and the contents of all lent
+ * memory after the call, follow from the arguments alone; the one exception is the contents of an accepted work slice,
+ * which are left open.
  *
  * Linking (x86-64)
  *   After `./install PREFIX`, and with PREFIX/lib/pkgconfig in PKG_CONFIG_PATH where it is not looked up anyway:
@@ -16,46 +17,55 @@
  *
  * How memory is lent
  *   A slice is passed as a pointer and then its length in ELEMENTS (not bytes). Entries of degrees, output and work
- *   are 16-bit numbers, and their pointers must be aligned for uint16_t. With length 0 the pointer may be null, as the
- *   data() of an empty C++ vector is: no call looks at the pointer of an empty slice, or through it. That is tested
- *   of this archive, for each slice of each call, and not proved. With any other length the pointer must lead to
- *   that many elements, also where the call is refused. Memory that a call may write must not overlap any other
- *   memory lent to the same call.
+ *   are 16-bit numbers, those of a packed table 64-bit numbers, and their pointers must be aligned for uint16_t and
+ *   uint64_t. With length 0 the pointer may be null, as the data() of an empty C++ vector is: no call looks at the
+ *   pointer of an empty slice, or through it. That is tested of this archive, for each slice of each call, and not
+ *   proved. With any other length the pointer must lead to that many elements, also where the call is refused. Memory
+ *   that a call may write must not overlap any other memory lent to the same call.
  *
  * The graph
- *   n vertices, 0 to n - 1, n at most 1,024. The table is n * n bytes, row by row: byte u * n + v is 1 where u
- *   and v are joined, else 0. It is symmetric with a diagonal of zeros. The degree of a vertex is the ones in its
- *   row, and the list of degrees has n entries, one a vertex. It is lent beside the table, and a call that takes both
- *   turns back a list that is not this table's. Rank 0 is the vertex of least degree; equal degrees go by smaller
- *   vertex number.
+ *   n vertices, 0 to n - 1, n at most 1,024. The table is packed: of each vertex a row, and each row ISOLATED_ROW(n)
+ *   numbers of 64 bits, which are n / 64 rounded up; ISOLATED_TABLE(n) numbers in all, row by row. In the row of u, bit
+ *   v % 64 of number v / 64 is 1 where u and v are joined, else 0. So the number is table[u * ISOLATED_ROW(n) + v / 64]
+ *   and the weight of the bit in it, 2 to the power v % 64, is ISOLATED_BIT(v); isolated_is_joined() reads it. Bits of
+ *   a row that are no vertex's, at or past n, are 0. The table is symmetric with a diagonal of zeros. The degree of a
+ *   vertex is the ones in its row, and the list of degrees has n entries, one a vertex. It is lent beside the table,
+ *   and a call that takes both turns back a list that is not this table's. Rank 0 is the vertex of least degree; equal
+ *   degrees go by smaller vertex number.
+ *   The byte table of a graph has n * n bytes, row by row: byte u * n + v is 1 where u and v are joined, else 0. Only
+ *   isolated_read_text() and isolated_pack() know it.
  *
  * A graph that changes
  *   A program that keeps a graph up to date has a table and a list, and goes about it like this:
- *     1. It fills the table: by isolated_read_text(), or with n * n zeros, which are n vertices without an edge. A
- *        table that was lent larger to isolated_read_text() is lent with length exactly n * n from then on.
+ *     1. It fills the table: with zeros, which are n vertices without an edge, or from a text, by isolated_read_text()
+ *        and then isolated_pack(). The byte table that was lent larger to the first is lent with length exactly n * n
+ *        to the second, and needed no more after it.
  *     2. It fills the list by one isolated_degrees().
  *     3. As shared chunks come and go it calls isolated_join() and isolated_part(). Each writes the pair in both rows
  *        and its two degrees, and nothing else, so that steps 3 and 4 follow one another all day in any order.
  *     4. It lists by isolated_page() from a fresh position, n zeros, or asks by isolated_set_query().
  *   In C, where 7 and 9 now share chunks and 7 and 8 no longer do:
- *     isolated_degrees(table, n * n, degrees, n, n);
- *     isolated_join(table, n * n, degrees, n, n, 7, 9);
- *     isolated_part(table, n * n, degrees, n, n, 7, 8);
+ *     isolated_pack(bytes, n * n, table, ISOLATED_TABLE(n), n);
+ *     isolated_degrees(table, ISOLATED_TABLE(n), degrees, n, n);
+ *     isolated_join(table, ISOLATED_TABLE(n), degrees, n, n, 7, 9);
+ *     isolated_part(table, ISOLATED_TABLE(n), degrees, n, n, 7, 8);
  *     memset(position, 0, n);
  *     do {
- *         page = isolated_page(table, n * n, degrees, n, position, n, output, ISOLATED_RECORD(n), work,
+ *         page = isolated_page(table, ISOLATED_TABLE(n), degrees, n, position, n, output, ISOLATED_RECORD(n), work,
  *                              ISOLATED_WORK(n), n, ISOLATED_MAX, ISOLATED_MAXIMAL_ISOLATED, 2, 1000000);
  *         for (const uint16_t *record = output; record < output + page.used; record += ISOLATED_RECORD(record[0])) {
  *             // record[0] vertices, from record[3] on; isolated_outgoing_edges(record) of their edges lead outside
  *         }
  *     } while (page.refusal == 0 && page.stop != ISOLATED_STOP_FINISHED);
- *   The first three tell a refusal too, which this leaves out. A page moves on by ranks, and an edit changes degrees
+ *   The first four tell a refusal too, which this leaves out. A page moves on by ranks, and an edit changes degrees
  *   and so ranks: a walk that was begun before an edit starts again from a fresh position. A stale position goes
  *   unnoticed: one from before an edit is mostly accepted, and the list is then wrong; no call notices it. Only where
  *   the edits between two pages have all been undone, so that the table is again as it was, may the walk go on.
  *   Each edit tests the whole table. To make many changes at once, write them into the table, each pair in both rows,
- *   and count once by isolated_degrees(). Who writes the table must count again in any case, since a list that is not
- *   the table's is refused (42).
+ *   and count once by isolated_degrees():
+ *     table[7 * ISOLATED_ROW(n) + 9 / 64] |= ISOLATED_BIT(9), table[9 * ISOLATED_ROW(n) + 7 / 64] |= ISOLATED_BIT(7);
+ *     table[7 * ISOLATED_ROW(n) + 8 / 64] &= ~ISOLATED_BIT(8), table[8 * ISOLATED_ROW(n) + 7 / 64] &= ~ISOLATED_BIT(7);
+ *   Who writes the table must count again in any case, since a list that is not the table's is refused (42).
  *   The number of vertices stays. One that leaves is parted from all its neighbours; it is then listed by itself, as
  *   every vertex without neighbours is.
  *
@@ -79,16 +89,16 @@
  *
  * Time
  *   Each call that takes a graph tests the whole table again, and but for isolated_degrees(), which counts them, the
- *   degrees against it: time in proportion to n * n, whatever the budget. For an edit that is nearly all. For a page on
- *   a sparse graph it is as long as some n * n / 3 steps, so with smaller budgets most of the time goes into these
- *   tests.
+ *   degrees against it: time in proportion to the numbers of the table, whatever its edges and the budget. For an edit
+ *   that is nearly all. For a page on a graph of 1,024 vertices it is as long as some 15,000 steps, so with smaller
+ *   budgets most of the time goes into these tests.
  *   A step takes time in proportion to n at most, and how many steps a walk has follows from the graph and c alone.
  *   Where all ranks are decided the taken set is tested before the step. Under ISOLATED_AVG and ISOLATED_MAX with
  *   ISOLATED_MAXIMAL_ISOLATED that test may search the common neighbours of an isolated clique, of which there are
  *   fewer than c; its time is exponential in their number in the worst case. Any other test of a taken set takes
  *   time in proportion to n * c at most. So a budget bounds the time of a page but for these searches.
  *   isolated_set_query() has no budget and makes at most one such search. isolated_read_text() takes time in
- *   proportion to the text's length and N * N.
+ *   proportion to the text's length and N * N, and isolated_pack() in proportion to n * n.
  *
  * Stack
  *   No call uses more than ISOLATED_STACK bytes of stack, whatever its arguments. Most is used by the search above,
@@ -106,18 +116,25 @@
 extern "C" {
 #endif
 
-/* The version of this header and of the archive that belongs to it, by numbers and as text. Before 0.3.0 a record was
-   the size and the vertices alone: what was compiled with an earlier header misreads the output of this archive. And
-   where it lends the n + 1 entries that sufficed then, a group of n - 1 or n vertices never fits, and it may ask for
-   ever. */
+/* The version of this header and of the archive that belongs to it, by numbers and as text. What was compiled with an
+   earlier header may link with this archive, and must not be run with it. Before 0.4.0 a graph was lent as its byte
+   table: that has another length, which is refused, but for n = 1, where 8 bytes are then read and 1 is lent. Before
+   0.3.0 a record was the size and the vertices alone. */
 #define ISOLATED_VERSION_MAJOR 0
-#define ISOLATED_VERSION_MINOR 3
+#define ISOLATED_VERSION_MINOR 4
 #define ISOLATED_VERSION_PATCH 0
-#define ISOLATED_VERSION "0.3.0"
+#define ISOLATED_VERSION "0.4.0"
 
 /* The most vertices of a graph, and the largest factor. */
 #define ISOLATED_VERTICES 1024
 #define ISOLATED_FACTOR 1024
+
+/* The numbers of a row of the packed table of n vertices, and those of the whole table. */
+#define ISOLATED_ROW(n) (((size_t)(n) + 63) / 64)
+#define ISOLATED_TABLE(n) (ISOLATED_ROW(n) * (size_t)(n))
+
+/* The weight of vertex v in its number of a row. */
+#define ISOLATED_BIT(v) ((uint64_t)1 << ((size_t)(v) % 64))
 
 /* The entries that a work slice needs for n vertices. */
 #define ISOLATED_WORK(n) (8 * (size_t)(n))
@@ -152,15 +169,18 @@ extern "C" {
 /* Accepted. */
 #define ISOLATED_REFUSED_NOT 0
 
-/* Refusals of the graph, by every call that takes one, tested in this order and before all others: of several faults
-   the first is told. isolated_degrees() tests of the last the length of the list alone. isolated_refusal_text() below
-   says what each refusal means. */
+/* Refusals of the graph, by every call that takes a packed table, tested in this order and before all others: of
+   several faults the first is told. isolated_degrees() tests of the last the length of the list alone.
+   isolated_refusal_text() below says what each refusal means. */
 #define ISOLATED_REFUSED_VERTICES 1
 #define ISOLATED_REFUSED_TABLE_LENGTH 2
-#define ISOLATED_REFUSED_TABLE_BYTE 3
+#define ISOLATED_REFUSED_STRAY_BIT 45
 #define ISOLATED_REFUSED_DIAGONAL 4
 #define ISOLATED_REFUSED_SYMMETRY 5
 #define ISOLATED_REFUSED_DEGREES 42
+
+/* Refusal of isolated_pack() alone, in the place of 45: it tests a byte table by 1 to 5, in this order. */
+#define ISOLATED_REFUSED_TABLE_BYTE 3
 
 /* Refusals of isolated_join() and isolated_part() alone, tested after those of the graph and in this order. */
 #define ISOLATED_REFUSED_NO_VERTEX 43
@@ -209,7 +229,7 @@ static inline const char *isolated_refusal_text(uint32_t refusal) {
     switch (refusal) {
     case ISOLATED_REFUSED_NOT: return "accepted";
     case ISOLATED_REFUSED_VERTICES: return "n is over 1,024";
-    case ISOLATED_REFUSED_TABLE_LENGTH: return "the table's length is not n * n";
+    case ISOLATED_REFUSED_TABLE_LENGTH: return "the table's length is not that for n vertices";
     case ISOLATED_REFUSED_TABLE_BYTE: return "a table byte is neither 0 nor 1";
     case ISOLATED_REFUSED_DIAGONAL: return "a vertex is joined to itself";
     case ISOLATED_REFUSED_SYMMETRY: return "the table is not symmetric";
@@ -238,8 +258,22 @@ static inline const char *isolated_refusal_text(uint32_t refusal) {
     case ISOLATED_REFUSED_DEGREES: return "a degree is not the ones in its row, or the list of degrees is not n long";
     case ISOLATED_REFUSED_NO_VERTEX: return "a vertex is not below n";
     case ISOLATED_REFUSED_EQUAL_ENDS: return "both ends of the pair are the same vertex";
+    case ISOLATED_REFUSED_STRAY_BIT: return "a row of the packed table has a bit at or past n";
     }
     return "no refusal has this number";
+}
+
+/*
+ * isolated_is_joined(): whether two vertices are joined.
+ *
+ *   table  the packed table of a graph. One number of it is read, and nothing else.
+ *   n      the vertices.
+ *   u, v   two vertices below n, which may be the same.
+ *
+ * Returns 1 where they are joined, else 0.
+ */
+static inline int isolated_is_joined(const uint64_t *table, size_t n, size_t u, size_t v) {
+    return (table[u * ISOLATED_ROW(n) + v / 64] & ISOLATED_BIT(v)) != 0;
 }
 
 /*
@@ -256,7 +290,7 @@ static inline uint32_t isolated_outgoing_edges(const uint16_t *record) {
 
 /* What isolated_page() returns. Where refusal is not 0 all other numbers are 0. */
 typedef struct isolated_page_answer {
-    uint32_t refusal; /* 0, or one of 1 to 10, 21 to 23 and 42 */
+    uint32_t refusal; /* 0, or the first of 1, 2, 45, 4, 5, 42, 6 to 10 and 21 to 23 that fits */
     uint32_t stop;    /* ISOLATED_STOP_... */
     uint32_t groups;  /* groups written by this call */
     uint32_t steps;   /* steps of the walk made by this call, at most budget */
@@ -266,13 +300,13 @@ typedef struct isolated_page_answer {
 
 /* What isolated_set_query() returns. Where refusal is not 0, yes is 0. */
 typedef struct isolated_set_answer {
-    uint32_t refusal; /* 0, or one of 1 to 11 and 42 */
+    uint32_t refusal; /* 0, or the first of 1, 2, 45, 4, 5, 42 and 6 to 11 that fits */
     uint32_t yes;     /* 1 where the set is a group, else 0 */
 } isolated_set_answer;
 
 /* What isolated_join() and isolated_part() return. Where refusal is not 0, unchanged is 0. */
 typedef struct isolated_edit_answer {
-    uint32_t refusal;   /* 0, or one of 1 to 5 and 42 to 44 */
+    uint32_t refusal;   /* 0, or the first of 1, 2, 45, 4, 5 and 42 to 44 that fits */
     uint32_t unchanged; /* 1 where the pair was so already and nothing was written, else 0 */
 } isolated_edit_answer;
 
@@ -294,7 +328,8 @@ typedef struct isolated_text_answer {
  * leaves another table for a later page, nothing is said of the list that was begun before it: start again with a
  * position of n zeros.
  *
- *   table, table_length        the graph; read only. table_length is n * n.
+ *   table, table_length        the packed table, as "The graph" above has it; read only. table_length is
+ *                              ISOLATED_TABLE(n).
  *   degrees, degrees_length    its degrees, as isolated_degrees() counts them; read only. degrees_length is n.
  *   position, position_length  n bytes, one a rank. Read, and set to the last position reached. All 0 is the
  *                              start, all 2 the end (with n = 0 the start is the end).
@@ -321,7 +356,7 @@ typedef struct isolated_text_answer {
  *
  * A refusal leaves every slice as it was, work among them.
  */
-isolated_page_answer isolated_page(const uint8_t *table, size_t table_length, const uint16_t *degrees,
+isolated_page_answer isolated_page(const uint64_t *table, size_t table_length, const uint16_t *degrees,
                                    size_t degrees_length, uint8_t *position, size_t position_length, uint16_t *output,
                                    size_t output_length, uint16_t *work, size_t work_length, size_t n, uint32_t notion,
                                    uint32_t kind, uint32_t c, uint32_t budget);
@@ -329,7 +364,8 @@ isolated_page_answer isolated_page(const uint8_t *table, size_t table_length, co
 /*
  * isolated_set_query(): says whether one set is a group.
  *
- *   table, table_length      the graph; read only. table_length is n * n.
+ *   table, table_length      the packed table, as "The graph" above has it; read only. table_length is
+ *                            ISOLATED_TABLE(n).
  *   degrees, degrees_length  its degrees; read only. degrees_length is n.
  *   set, set_length          n bytes, one a VERTEX: 1 for a member, 0 for another. Read only. The empty set is no
  *                            group.
@@ -338,54 +374,57 @@ isolated_page_answer isolated_page(const uint8_t *table, size_t table_length, co
  *
  * A refusal leaves every slice as it was.
  */
-isolated_set_answer isolated_set_query(const uint8_t *table, size_t table_length, const uint16_t *degrees,
+isolated_set_answer isolated_set_query(const uint64_t *table, size_t table_length, const uint16_t *degrees,
                                        size_t degrees_length, const uint8_t *set, size_t set_length, uint16_t *work,
                                        size_t work_length, size_t n, uint32_t notion, uint32_t kind, uint32_t c);
 
 /*
  * isolated_join(): joins two vertices.
  *
- *   table, table_length      the graph. table_length is n * n. The bytes u * n + v and v * n + u are set to 1.
+ *   table, table_length      the packed table, as "The graph" above has it. table_length is ISOLATED_TABLE(n). The
+ *                            bit of v in the row of u and that of u in the row of v are set to 1.
  *   degrees, degrees_length  its degrees. degrees_length is n. The entries u and v are raised by 1.
  *   n                        the vertices.
  *   u, v                     the pair, in either order: two different vertices below n.
  *
- * No other byte and no other entry is touched. Where the two are joined already, nothing is written and unchanged is 1;
+ * No other bit and no other entry is touched. Where the two are joined already, nothing is written and unchanged is 1;
  * else unchanged is 0. Table and list are then those of the new graph: the next call takes them as they are. What a
  * walk makes of an edit is told at isolated_page().
  *
  * A refusal leaves both slices as they were.
  */
-isolated_edit_answer isolated_join(uint8_t *table, size_t table_length, uint16_t *degrees, size_t degrees_length,
+isolated_edit_answer isolated_join(uint64_t *table, size_t table_length, uint16_t *degrees, size_t degrees_length,
                                    size_t n, size_t u, size_t v);
 
 /*
  * isolated_part(): parts two vertices. It undoes an isolated_join() of the same pair that answered unchanged 0, entry
  * for entry, and isolated_join() undoes such an isolated_part().
  *
- *   table, table_length      the graph. table_length is n * n. The bytes u * n + v and v * n + u are set to 0.
+ *   table, table_length      the packed table, as "The graph" above has it. table_length is ISOLATED_TABLE(n). The
+ *                            bit of v in the row of u and that of u in the row of v are set to 0.
  *   degrees, degrees_length  its degrees. degrees_length is n. The entries u and v are lowered by 1.
  *   n, u, v                  as for isolated_join().
  *
- * No other byte and no other entry is touched. Where the two are not joined, nothing is written and unchanged is 1;
+ * No other bit and no other entry is touched. Where the two are not joined, nothing is written and unchanged is 1;
  * else unchanged is 0.
  *
  * A refusal leaves both slices as they were.
  */
-isolated_edit_answer isolated_part(uint8_t *table, size_t table_length, uint16_t *degrees, size_t degrees_length,
+isolated_edit_answer isolated_part(uint64_t *table, size_t table_length, uint16_t *degrees, size_t degrees_length,
                                    size_t n, size_t u, size_t v);
 
 /*
  * isolated_degrees(): counts the degrees of a graph, for the first list of it or one that went astray.
  *
- *   table, table_length      the graph; read only. table_length is n * n.
+ *   table, table_length      the packed table, as "The graph" above has it; read only. table_length is
+ *                            ISOLATED_TABLE(n).
  *   degrees, degrees_length  n entries with any contents. Accepted: entry v is set to the degree of vertex v.
  *   n                        the vertices.
  *
- * Returns 0, or the refusal: one of 1 to 5, then 42 where degrees_length is not n. A refusal leaves both slices as they
- * were.
+ * Returns 0, or the refusal: the first of 1, 2, 45, 4, 5, and 42 where degrees_length is not n. A refusal leaves both
+ * slices as they were.
  */
-uint32_t isolated_degrees(const uint8_t *table, size_t table_length, uint16_t *degrees, size_t degrees_length,
+uint32_t isolated_degrees(const uint64_t *table, size_t table_length, uint16_t *degrees, size_t degrees_length,
                           size_t n);
 
 /*
@@ -402,11 +441,28 @@ uint32_t isolated_degrees(const uint8_t *table, size_t table_length, uint16_t *d
  *
  *   text, text_length    the text, of any length; read only.
  *   table, table_length  at least N * N bytes with any contents. Accepted: the first N * N bytes hold the graph's
- *                        table, the rest is untouched. Refused before a p line has passed: nothing is written.
- *                        Refused after it: the first N * N bytes, with that line's N, are 0. Every other call wants
- *                        the table with length exactly N * N, also where more was lent here.
+ *                        byte table, the rest is untouched. Refused before a p line has passed: nothing is written.
+ *                        Refused after it: the first N * N bytes, with that line's N, are 0. isolated_pack(), which
+ *                        makes a packed table of them, wants them with length exactly N * N, also where more was lent
+ *                        here.
  */
 isolated_text_answer isolated_read_text(const uint8_t *text, size_t text_length, uint8_t *table, size_t table_length);
+
+/*
+ * isolated_pack(): packs a byte table, one that isolated_read_text() filled or that the caller wrote.
+ *
+ *   bytes, bytes_length    the byte table, as "The graph" above has it; read only. bytes_length is n * n.
+ *   packed, packed_length  ISOLATED_TABLE(n) numbers with any contents. Accepted: all of them are set, to the packed
+ *                          table of the same graph.
+ *   n                      the vertices.
+ *
+ * Each call that takes a packed table accepts that one: of a graph that has passed here only its list of degrees can
+ * still be refused.
+ *
+ * Returns 0, or the refusal: the first of 1 to 5 that fits, 2 where one of the two lengths is another. A refusal leaves
+ * both slices as they were.
+ */
+uint32_t isolated_pack(const uint8_t *bytes, size_t bytes_length, uint64_t *packed, size_t packed_length, size_t n);
 
 #ifdef __cplusplus
 }

@@ -2,16 +2,18 @@
 
 use crate::clock::rounds;
 use crate::graphs::{near_cliques, random, Graph};
+use crate::packed::Packed;
 use crate::shown;
 use isolated::{Groups, Kind, Notion, Room, Settings};
 use std::hint::black_box;
 
 /// The list at each c up to the largest, all side by side.
 fn grow(name: &str, graph: &Graph, most: u32) {
-    let degrees = graph.degrees();
+    let graph = Packed::of(graph);
     let list = |c: u32, room: &mut Room| {
         let settings = Settings { notion: Notion::Max, kind: Kind::MaximalIsolated, c };
-        let mut listing = Groups::new(black_box(&graph.table), &degrees, graph.n, settings, room).unwrap();
+        let table = black_box(&graph.table);
+        let mut listing = Groups::new(table, &graph.degrees, graph.n, settings, room).unwrap();
         let groups = listing.by_ref().count();
         (groups, listing.steps())
     };

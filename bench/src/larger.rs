@@ -2,6 +2,7 @@
 
 use crate::clock::rounds;
 use crate::graphs::Graph;
+use crate::packed::Packed;
 use crate::planted::{blocks, clique, met};
 use crate::posed::{Lent, Posed};
 use crate::queried::Queried;
@@ -40,15 +41,15 @@ impl Side<'_> {
 }
 
 fn compare(name: &str, graph: &Graph, settings: Settings, tests: &[Posed]) {
-    let degrees = graph.degrees();
-    let side = |beaten| Side { lent: Lent::new(&graph.table, &degrees, settings), beaten };
+    let graph = &Packed::of(graph);
+    let side = |beaten| Side { lent: Lent::new(graph, settings), beaten };
     let [mut before, mut after] = [side(larger_before::beaten), side(larger_after::beaten)];
-    let mut queried = Queried::new(graph, &degrees, settings, tests);
+    let mut queried = Queried::new(graph, settings, tests);
     let mut yes = 0;
     for test in tests.chunks(1) {
         let answer = before.yes(test);
         assert_eq!(answer, after.yes(test), "the searches differ");
-        let library = Queried::new(graph, &degrees, settings, test).yes(Kind::MaximalIsolated);
+        let library = Queried::new(graph, settings, test).yes(Kind::MaximalIsolated);
         assert_eq!(answer, library, "the library answers otherwise");
         yes += answer;
     }
@@ -72,7 +73,7 @@ fn compare_planted(settings: Settings, percent: usize) {
     let planted = |further: usize| clique(settings.c as usize, percent, further);
     let is_group = |further: &usize| {
         let (graph, posed) = planted(*further);
-        Queried::new(&graph, &graph.degrees(), settings, &[posed]).yes(Kind::MaximalIsolated) == 0
+        Queried::new(&Packed::of(&graph), settings, &[posed]).yes(Kind::MaximalIsolated) == 0
     };
     let fewest = (1..).find(is_group).expect("with many further neighbours it is a group");
     for further in [fewest, fewest - 1] {

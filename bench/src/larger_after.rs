@@ -1,6 +1,7 @@
 //! The search for a larger isolated clique as the library has it. Each candidate has a mark: 0 while it is still in, else the
 //! depth at which it dropped out, not being joined to the member added there. So it is known how many are still in.
 
+use crate::packed::joined;
 use crate::posed::Lent;
 use crate::tally::Tally;
 
@@ -32,12 +33,12 @@ fn least_degree(lent: &Lent, candidates: &[u16]) -> usize {
 
 /// Marks each of the candidates, which are all in: with the depth where it is not joined to the member of this row, else with 0.
 /// How many have dropped out.
-fn mark_first(row: &[u8], candidates: &[u16], marks: &mut [u16], depth: u16) -> usize {
+fn mark_first(row: &[u64], candidates: &[u16], marks: &mut [u16], depth: u16) -> usize {
     let mut out = 0;
     for (mark, &u) in marks.iter_mut().zip(candidates) {
-        let joined = row[u as usize] == 1;
-        *mark = if joined { 0 } else { depth };
-        out += usize::from(!joined);
+        let still = joined(row, u as usize);
+        *mark = if still { 0 } else { depth };
+        out += usize::from(!still);
     }
     out
 }
@@ -86,10 +87,10 @@ fn search_below(lent: &mut Lent, larger: Tally, low: usize, i: usize, m: usize, 
 }
 
 /// Marks with the depth each of the candidates that is still in and not joined to the member of this row; how many these are.
-fn drop_out(row: &[u8], candidates: &[u16], marks: &mut [u16], depth: u16) -> usize {
+fn drop_out(row: &[u64], candidates: &[u16], marks: &mut [u16], depth: u16) -> usize {
     let mut out = 0;
     for (mark, &u) in marks.iter_mut().zip(candidates) {
-        if row[u as usize] != 1 && *mark == 0 {
+        if !joined(row, u as usize) && *mark == 0 {
             *mark = depth;
             out += 1;
         }

@@ -3,20 +3,23 @@
 use crate::clock::rounds;
 use crate::graphs::{near_cliques, random, Graph};
 use crate::kerbosch;
+use crate::packed::Packed;
 use crate::shown;
 use isolated::{Groups, Kind, Notion, Room, Settings};
 use std::hint::black_box;
 
 fn compare(name: &str, graph: &Graph, c: u32) {
     let settings = Settings { notion: Notion::Avg, kind: Kind::IsolatedMaximal, c };
-    let (degrees, mut room) = (graph.degrees(), Room::with_output(graph.n, 1 << 16));
-    let mut listing = Groups::new(&graph.table, &degrees, graph.n, settings, &mut room).unwrap();
+    let graph = &Packed::of(graph);
+    let mut room = Room::with_output(graph.n, 1 << 16);
+    let mut listing = Groups::new(&graph.table, &graph.degrees, graph.n, settings, &mut room).unwrap();
     let groups = listing.by_ref().count() as u64;
     let steps = listing.steps();
     assert_eq!(groups, kerbosch::count(graph, settings), "the listings differ");
     let rounds = rounds(&mut [
         &mut || {
-            let listing = Groups::new(black_box(&graph.table), &degrees, graph.n, settings, &mut room).unwrap();
+            let table = black_box(&graph.table);
+            let listing = Groups::new(table, &graph.degrees, graph.n, settings, &mut room).unwrap();
             black_box(listing.count());
         },
         &mut || {
@@ -34,7 +37,8 @@ fn compare(name: &str, graph: &Graph, c: u32) {
 
 pub fn print() {
     println!("## The whole list at kind 1 beside Bron-Kerbosch with a filter\n");
-    println!("Notion 1 (avg). Bron-Kerbosch lists every maximal clique, with a pivot and rows of bits, and keeps the isolated ones.\n");
+    println!("Notion 1 (avg). Bron-Kerbosch lists every maximal clique, with a pivot and rows of bits, and keeps the isolated ones. Both");
+    println!("read the packed table.\n");
     println!("| graph | n | c | groups | steps | library | Bron-Kerbosch | library to it |");
     println!("|---|---|---|---|---|---|---|---|");
     for c in [1, 2, 4] {

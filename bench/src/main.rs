@@ -1,5 +1,7 @@
 //! The library's times beside plain Rust, all in one run. Prints a page in Markdown: trust the ratios, not the times.
 
+mod blocks;
+mod bytes;
 mod clock;
 mod edits;
 mod graphs;
@@ -10,6 +12,8 @@ mod larger_after;
 mod larger_before;
 mod lists;
 mod openings;
+mod packed;
+mod packing;
 mod planted;
 mod posed;
 mod queried;
@@ -24,6 +28,7 @@ fn main() {
     steps::print();
     twins::print();
     openings::print();
+    packing::print();
     edits::print();
     larger::print();
     lists::print();

@@ -1,93 +1,70 @@
-//! What a page costs before its first step, the tests of its arguments and the ranks: beside the same in safe Rust, as it is
-//! and as it was before the degrees were lent, and beside a plain sum of the table's bytes.
+//! What a page costs before its first step, the tests of its arguments and the ranks: beside the same in safe Rust, over the
+//! packed table and over the byte table.
 
+use crate::bytes;
 use crate::clock::rounds;
-use crate::graphs::{near_cliques, random, Graph};
+use crate::graphs::random;
+use crate::packed::Packed;
 use crate::shown;
-use crate::twin::{fill_order, is_graph, is_table, ones};
+use crate::twin;
 use isolated::{page, work_entries, Kind, Notion, Settings};
 use std::hint::black_box;
 
-/// The table and the lent degrees are tested, and the ranks counted.
-fn after(table: &[u8], degrees: &[u16], n: usize, order: &mut [u16]) -> bool {
-    let sound = is_graph(table, degrees, n);
-    if sound {
-        fill_order(degrees, order);
-    }
-    sound
-}
+const SETTINGS: Settings = Settings { notion: Notion::Max, kind: Kind::MaximalIsolated, c: 3 };
 
-/// The table is tested, the degrees are counted, and a vertex's rank is found by comparing it with every other.
-fn before(table: &[u8], n: usize, degrees: &mut [u16], order: &mut [u16]) -> bool {
-    let sound = is_table(table, n);
-    if sound {
-        for (u, degree) in degrees.iter_mut().enumerate() {
-            *degree = ones(table, n, u);
-        }
-        for v in 0..n {
-            let earlier = |u: usize| degrees[u] < degrees[v] || (degrees[u] == degrees[v] && u < v);
-            order[(0..n).filter(|&u| earlier(u)).count()] = v as u16;
-        }
-    }
-    sound
-}
-
-fn compare(name: &str, graph: &Graph) {
-    let (table, degrees, n) = (&graph.table, graph.degrees(), graph.n);
-    let (mut order, mut its_order, mut its_degrees) = (vec![0; n], vec![0; n], vec![0; n]);
-    assert!(after(table, &degrees, n, &mut order) && before(table, n, &mut its_degrees, &mut its_order));
-    assert!(order == its_order && degrees == its_degrees, "the openings differ");
-    let settings = Settings { notion: Notion::Max, kind: Kind::MaximalIsolated, c: 3 };
-    let (mut position, mut work) = (vec![0; n], vec![0; work_entries(n)]);
+fn compare(n: usize, degree: usize) {
+    let graph = random(n, degree, 5);
+    let packed = Packed::of(&graph);
+    let (table, degrees) = (&packed.table, &packed.degrees);
+    let (mut position, mut its_position) = (vec![0; n], vec![0; n]);
+    let (mut work, mut its_work, mut order) = (vec![0; work_entries(n)], vec![0; work_entries(n)], vec![0; n]);
+    let ours = page(table, degrees, &mut position, &mut [], &mut work, n, SETTINGS, 1).unwrap();
+    let its = twin::page(table, degrees, &mut its_position, &mut [], &mut its_work, n, SETTINGS, 1);
+    assert!(its == Some(ours) && position == its_position, "the openings differ");
+    assert!(bytes::open(&graph.table, degrees, n, &mut order) && order == its_work[..n], "the orders differ");
+    position.fill(0);
+    its_position.fill(0);
     let times = (1 << 22) / (n * n);
     let rounds = rounds(&mut [
         &mut || {
             for _ in 0..times {
                 let table = black_box(table);
-                black_box(page(table, &degrees, &mut position, &mut [], &mut work, n, settings, 0)).unwrap();
+                black_box(page(table, degrees, &mut position, &mut [], &mut work, n, SETTINGS, 0)).unwrap();
             }
         },
         &mut || {
             for _ in 0..times {
-                black_box(after(black_box(table), &degrees, n, black_box(&mut order)));
+                let table = black_box(table);
+                black_box(twin::page(table, degrees, &mut its_position, &mut [], &mut its_work, n, SETTINGS, 0))
+                    .unwrap();
             }
         },
         &mut || {
             for _ in 0..times {
-                black_box(before(black_box(table), n, &mut its_degrees, black_box(&mut its_order)));
-            }
-        },
-        &mut || {
-            for _ in 0..times {
-                black_box(black_box(table).iter().map(|&byte| u64::from(byte)).sum::<u64>());
+                assert!(black_box(bytes::open(black_box(&graph.table), degrees, n, black_box(&mut order))));
             }
         },
     ]);
-    let [page, now, then, sum] = [0, 1, 2, 3].map(|side| rounds.time(side) / times as f64);
+    let [page, twin, bytes] = [0, 1, 2].map(|side| shown::time(rounds.time(side) / times as f64));
     println!(
-        "| {name} | {n} | {} | {} | {} | {} | {:.2} | {:.2} | {:.2} | {:.1} | {:.2} |",
-        shown::time(page),
-        shown::time(now),
-        shown::time(then),
-        shown::time(sum),
+        "| {n} | {degree} | {page} | {twin} | {bytes} | {:.2} | {:.2} | {:.2} |",
         rounds.ratio(0, 1),
         rounds.ratio(0, 2),
-        rounds.ratio(1, 2),
-        rounds.ratio(0, 3),
-        page / (n * n) as f64
+        rounds.ratio(1, 2)
     );
 }
 
 pub fn print() {
     println!("## The opening of a page\n");
-    println!("A page with budget 0 beside the same opening in safe Rust, after and before the degrees were lent, and beside a plain sum of");
-    println!("the table's bytes. After: refusals 1 to 5, the lent degrees beside the rows, ranks by counting. Before: refusals 1 to 5,");
-    println!("the degrees of the rows, ranks by comparing every two vertices. The last column: page, by table byte.\n");
-    println!("| graph | n | page, budget 0 | after | before | sum | page to after | page to before | after to before | page to sum | ns a byte |");
-    println!("|---|---|---|---|---|---|---|---|---|---|---|");
-    for n in [64, 256, 1024] {
-        compare("near-cliques of 8", &near_cliques(n));
-        compare("random, degree 12", &random(n, 12, 5));
+    println!("A page with budget 0 beside the same in safe Rust over the same packed table, and beside the opening over the byte table as it");
+    println!("was before C-15, in safe Rust too: refusals 1 to 5, the lent degrees beside the rows, ranks by counting. Random graphs. The bars:");
+    println!("at n = 1,024, page to bytes is at most 0.1 at degree 12, and at most 0.33 at degree 256.");
+    let bytes = 1024 * 1024;
+    println!("A table of n = 1,024 takes {} KiB packed, where it took {} KiB.\n", bytes / 8 / 1024, bytes / 1024);
+    println!("| n | degree | page, budget 0 | twin | bytes | page to twin | page to bytes | twin to bytes |");
+    println!("|---|---|---|---|---|---|---|---|");
+    for (n, degree) in [(64, 12), (256, 12), (1024, 4), (1024, 12), (1024, 256), (1024, 512), (1024, 1023)] {
+        compare(n, degree);
     }
     println!();
 }

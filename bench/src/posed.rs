@@ -1,6 +1,7 @@
 //! The test for a larger isolated clique as a page poses it: a clique, and the other neighbours of its pivot.
 
 use crate::graphs::Graph;
+use crate::packed::{joined, row, Packed};
 use crate::tally::Tally;
 use isolated::Settings;
 
@@ -31,7 +32,7 @@ impl Posed {
 
 /// What a test is lent, the parts of its work slice among it, and the nodes that it visits: the larger cliques looked at.
 pub struct Lent<'a> {
-    table: &'a [u8],
+    table: &'a [u64],
     degrees: &'a [u16],
     n: usize,
     pub settings: Settings,
@@ -42,10 +43,10 @@ pub struct Lent<'a> {
 }
 
 impl<'a> Lent<'a> {
-    pub fn new(table: &'a [u8], degrees: &'a [u16], settings: Settings) -> Lent<'a> {
-        let n = degrees.len();
-        let part = || vec![0; n];
-        Lent { table, degrees, n, settings, members: part(), candidates: part(), marks: part(), nodes: 0 }
+    pub fn new(graph: &'a Packed, settings: Settings) -> Lent<'a> {
+        let Packed { n, table, degrees } = graph;
+        let part = || vec![0; *n];
+        Lent { table, degrees, n: *n, settings, members: part(), candidates: part(), marks: part(), nodes: 0 }
     }
 
     /// Lists the common neighbours of the members; how many they are. Both sides list by this code.
@@ -63,9 +64,8 @@ impl<'a> Lent<'a> {
         m
     }
 
-    pub fn row(&self, v: u16) -> &'a [u8] {
-        let table = self.table;
-        &table[v as usize * self.n..(v as usize + 1) * self.n]
+    pub fn row(&self, v: u16) -> &'a [u64] {
+        row(self.table, self.n, v as usize)
     }
 
     pub fn degree(&self, v: u16) -> usize {
@@ -75,7 +75,7 @@ impl<'a> Lent<'a> {
     /// Is v joined to each of these?
     pub fn joined_to_all(&self, v: u16, others: &[u16]) -> bool {
         let row = self.row(v);
-        others.iter().all(|&u| row[u as usize] == 1)
+        others.iter().all(|&u| joined(row, u as usize))
     }
 
     /// The numbers with v among the members: one node more.

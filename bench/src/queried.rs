@@ -1,36 +1,30 @@
 //! The library's answers to tests for a larger isolated clique, by the set query, and the time of its search alone.
 
 use crate::clock::{rounds, Rounds};
-use crate::graphs::Graph;
+use crate::packed::Packed;
 use crate::posed::Posed;
 use isolated::{set_query, work_entries, Kind, Settings};
 use std::cell::RefCell;
 use std::hint::black_box;
 
 pub struct Queried<'a> {
-    graph: &'a Graph,
-    degrees: &'a [u16],
+    graph: &'a Packed,
     settings: Settings,
     sets: Vec<Vec<u8>>,
     work: Vec<u16>,
 }
 
 impl<'a> Queried<'a> {
-    pub fn new(graph: &'a Graph, degrees: &'a [u16], settings: Settings, tests: &[Posed]) -> Queried<'a> {
+    pub fn new(graph: &'a Packed, settings: Settings, tests: &[Posed]) -> Queried<'a> {
         let set = |posed: &Posed| (0..graph.n).map(|v| u8::from(posed.members.contains(&(v as u16)))).collect();
-        Queried {
-            graph,
-            degrees,
-            settings,
-            sets: tests.iter().map(set).collect(),
-            work: vec![0; work_entries(graph.n)],
-        }
+        Queried { graph, settings, sets: tests.iter().map(set).collect(), work: vec![0; work_entries(graph.n)] }
     }
 
     /// The tests that the answer is yes to: isolated cliques that are no groups.
     pub fn yes(&mut self, kind: Kind) -> usize {
-        let (table, n, settings) = (black_box(&self.graph.table), self.graph.n, Settings { kind, ..self.settings });
-        let mut group = |set: &Vec<u8>| set_query(table, self.degrees, set, &mut self.work, n, settings).unwrap();
+        let Packed { n, table, degrees } = black_box(self.graph);
+        let settings = Settings { kind, ..self.settings };
+        let mut group = |set: &Vec<u8>| set_query(table, degrees, set, &mut self.work, *n, settings).unwrap();
         self.sets.iter().filter(|set| !group(set)).count()
     }
 

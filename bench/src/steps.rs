@@ -2,6 +2,7 @@
 
 use crate::clock::{rounds, Rounds};
 use crate::graphs::{Graph, NEAR_CLIQUES, RINGS};
+use crate::packed::Packed;
 use crate::shown;
 use isolated::{page, work_entries, Kind, Notion, Settings};
 use std::hint::black_box;
@@ -10,19 +11,18 @@ use std::hint::black_box;
 const STEPS: u32 = 4_000_000;
 
 pub struct Timed {
-    pub graph: Graph,
-    degrees: Vec<u16>,
-    pub settings: Settings,
+    graph: Packed,
+    settings: Settings,
     position: Vec<u8>,
     output: Vec<u16>,
     work: Vec<u16>,
 }
 
 impl Timed {
-    pub fn new(graph: Graph, settings: Settings) -> Timed {
-        let (n, degrees) = (graph.n, graph.degrees());
+    pub fn new(graph: &Graph, settings: Settings) -> Timed {
+        let n = graph.n;
         let (position, output, work) = (vec![0; n], vec![0; 1 << 22], vec![0; work_entries(n)]);
-        Timed { graph, degrees, settings, position, output, work }
+        Timed { graph: Packed::of(graph), settings, position, output, work }
     }
 
     /// Pages from fresh with this budget each, so many times; the steps made in all.
@@ -32,7 +32,7 @@ impl Timed {
             self.position.fill(0);
             let made = page(
                 black_box(&self.graph.table),
-                &self.degrees,
+                &self.graph.degrees,
                 &mut self.position,
                 &mut self.output,
                 &mut self.work,
@@ -83,7 +83,7 @@ pub fn print() {
         (RINGS, Notion::Min, Kind::IsolatedMaximal, 6),
     ] {
         let settings = Settings { notion, kind, c };
-        let mut walks = [64, 256, 1024].map(|n| Timed::new(make(n), settings));
+        let mut walks = [64, 256, 1024].map(|n| Timed::new(&make(n), settings));
         let rounds = step_times(&mut walks);
         println!(
             "| {name} | {} | {:.2} | {:.2} | {:.2} | {:.2} |",

@@ -1,7 +1,8 @@
 //! The page beside the same page in safe Rust.
 
 use crate::clock::{rounds, Rounds};
-use crate::graphs::{random, Family, Graph, NEAR_CLIQUES, RINGS};
+use crate::graphs::{random, Family, NEAR_CLIQUES, RINGS};
+use crate::packed::Packed;
 use crate::shown;
 use crate::twin;
 use isolated::{page, work_entries, Kind, Notion, Settings};
@@ -11,13 +12,13 @@ const BUDGET: u32 = 8_000_000;
 const OUTPUT: usize = 1 << 22;
 
 /// Both sides must do the same thing, else their times say nothing.
-fn check(graph: &Graph, settings: Settings) -> u32 {
-    let (table, degrees, n) = (&graph.table, graph.degrees(), graph.n);
+fn check(graph: &Packed, settings: Settings) -> u32 {
+    let (table, degrees, n) = (&graph.table, &graph.degrees, graph.n);
     let (mut position, mut its_position) = (vec![0; n], vec![0; n]);
     let (mut output, mut its_output) = (vec![0; OUTPUT], vec![0; OUTPUT]);
     let mut work = vec![0; work_entries(n)];
-    let ours = page(table, &degrees, &mut position, &mut output, &mut work, n, settings, BUDGET).unwrap();
-    let its = twin::page(table, &degrees, &mut its_position, &mut its_output, &mut work, n, settings, BUDGET).unwrap();
+    let ours = page(table, degrees, &mut position, &mut output, &mut work, n, settings, BUDGET).unwrap();
+    let its = twin::page(table, degrees, &mut its_position, &mut its_output, &mut work, n, settings, BUDGET).unwrap();
     assert_eq!(its, ours, "the twin answers otherwise");
     assert!(position == its_position && output == its_output, "the twin leaves other memory");
     ours.steps
@@ -38,8 +39,8 @@ fn times(page: Side, twin: Side) -> Rounds {
     rounds.map(|times| vec![times[0], times[1], times[0] - times[2], times[1] - times[3]])
 }
 
-fn compare(name: &str, graph: &Graph, settings: Settings) {
-    let (degrees, n) = (graph.degrees(), graph.n);
+fn compare(name: &str, graph: &Packed, settings: Settings) {
+    let (degrees, n) = (&graph.degrees, graph.n);
     let steps = check(graph, settings);
     let (mut position, mut its_position) = (vec![0; n], vec![0; n]);
     let (mut output, mut its_output) = (vec![0; OUTPUT], vec![0; OUTPUT]);
@@ -48,13 +49,13 @@ fn compare(name: &str, graph: &Graph, settings: Settings) {
         &mut |budget| {
             position.fill(0);
             let table = black_box(&graph.table);
-            black_box(page(table, &degrees, &mut position, &mut output, &mut work, n, settings, budget)).unwrap();
+            black_box(page(table, degrees, &mut position, &mut output, &mut work, n, settings, budget)).unwrap();
         },
         &mut |budget| {
             its_position.fill(0);
             let table = black_box(&graph.table);
             let (position, output, work) = (&mut its_position, &mut its_output, &mut its_work);
-            black_box(twin::page(table, &degrees, position, output, work, n, settings, budget)).unwrap();
+            black_box(twin::page(table, degrees, position, output, work, n, settings, budget)).unwrap();
         },
     );
     println!(
@@ -76,7 +77,7 @@ pub fn print() {
     let randoms: Family = ("random, degree 12", |n| random(n, 12, 5));
     for ((name, make), c) in [(NEAR_CLIQUES, 4), (RINGS, 6), (randoms, 8)] {
         for n in [64, 256, 1024] {
-            let graph = make(n);
+            let graph = Packed::of(&make(n));
             for (notion, kind) in [(Notion::Max, Kind::MaximalIsolated), (Notion::Avg, Kind::IsolatedMaximal)] {
                 compare(name, &graph, Settings { notion, kind, c });
             }

@@ -1,7 +1,7 @@
 //! A graph that is kept: its table and its degrees in one place.
 
 use crate::groups::Place;
-use crate::{fill_degrees, join, part, read_text, set_query, work_entries};
+use crate::{fill_degrees, join, pack, part, read_text, row_numbers, set_query, table_numbers, work_entries};
 use crate::{Groups, Refusal, Room, Settings, TextRefusal, VERTICES};
 use std::fmt;
 
@@ -36,7 +36,7 @@ use std::fmt;
 #[derive(Clone, PartialEq, Eq)]
 pub struct Graph {
     n: usize,
-    table: Vec<u8>,
+    table: Vec<u64>,
     degrees: Vec<u16>,
 }
 
@@ -50,7 +50,7 @@ impl Graph {
         if n > VERTICES {
             return Err(Refusal::Vertices);
         }
-        Ok(Graph { n, table: vec![0; n * n], degrees: vec![0; n] })
+        Ok(Graph { n, table: vec![0; table_numbers(n)], degrees: vec![0; n] })
     }
 
     /// The graph of a text in the DIMACS edge layout: vertex U of the text is vertex U - 1 here.
@@ -77,12 +77,11 @@ impl Graph {
     ///
     /// Never with the proved library; only one with other answers could make it panic.
     pub fn from_text(text: &[u8]) -> Result<Graph, TextRefusal> {
-        let mut table = vec![0; VERTICES * VERTICES];
-        let n = read_text(text, &mut table)?.vertices;
-        table.truncate(n * n);
-        table.shrink_to_fit();
-        let mut degrees = vec![0; n];
-        fill_degrees(&table, &mut degrees, n).expect("the reader's table is accepted");
+        let mut bytes = vec![0; VERTICES * VERTICES];
+        let n = read_text(text, &mut bytes)?.vertices;
+        let (mut table, mut degrees) = (vec![0; table_numbers(n)], vec![0; n]);
+        pack(&bytes[..n * n], &mut table, n).expect("the reader's table is accepted");
+        fill_degrees(&table, &mut degrees, n).expect("a packed table is accepted");
         Ok(Graph { n, table, degrees })
     }
 
@@ -107,7 +106,7 @@ impl Graph {
     /// Whether two vertices are joined; no where one of them is not below n.
     #[must_use]
     pub fn is_joined(&self, u: usize, v: usize) -> bool {
-        u < self.n && v < self.n && self.table[u * self.n + v] == 1
+        u < self.n && v < self.n && self.table[u * row_numbers(self.n) + v / 64] >> (v % 64) & 1 == 1
     }
 
     /// The neighbours of a vertex, in the order of their numbers; none where there is no such vertex.
@@ -115,9 +114,9 @@ impl Graph {
         (0..self.n).filter(move |&u| self.is_joined(v, u))
     }
 
-    /// The table: n × n bytes, row by row, 1 where two vertices are joined.
+    /// The packed table, in the form that the page of the [crate] tells.
     #[must_use]
-    pub fn table(&self) -> &[u8] {
+    pub fn table(&self) -> &[u64] {
         &self.table
     }
 

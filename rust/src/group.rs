@@ -28,7 +28,7 @@ pub const fn record_entries(k: usize) -> usize {
 /// use isolated::{page, record_entries, records, Group, Kind, Notion, Settings};
 ///
 /// # fn main() -> Result<(), isolated::Refusal> {
-/// let (path, degrees) = ([0, 1, 0, 1, 0, 1, 0, 1, 0], [1, 2, 1]);
+/// let (path, degrees) = ([0b010, 0b101, 0b010], [1, 2, 1]);
 /// let settings = Settings::new(Notion::Max, Kind::MaximalIsolated, 2);
 /// let (mut output, mut work) = ([0; 2 * record_entries(3)], [0; 24]);
 /// let done = page(&path, &degrees, &mut [0; 3], &mut output, &mut work, 3, settings, 1000)?;

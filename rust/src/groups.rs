@@ -65,7 +65,7 @@ impl fmt::Debug for Room {
 /// use isolated::{Group, Groups, Kind, Notion, Refusal, Room, Settings};
 ///
 /// # fn main() -> Result<(), Refusal> {
-/// let (triangle, degrees) = ([0, 1, 1, 1, 0, 1, 1, 1, 0], [2, 2, 2]);
+/// let (triangle, degrees) = ([0b110, 0b101, 0b011], [2, 2, 2]);
 /// let mut room = Room::new(3);
 /// let settings = Settings::new(Notion::Avg, Kind::IsolatedMaximal, 1);
 /// let mut groups = Groups::new(&triangle, &degrees, 3, settings, &mut room)?;
@@ -79,7 +79,7 @@ impl fmt::Debug for Room {
 /// # }
 /// ```
 pub struct Groups<'a> {
-    table: &'a [u8],
+    table: &'a [u64],
     degrees: &'a [u16],
     n: usize,
     settings: Settings,
@@ -107,15 +107,15 @@ impl Place<'_> {
 }
 
 impl<'a> Groups<'a> {
-    /// Starts a listing from the fresh position. `table` has n × n bytes, `degrees` the degree of each vertex, and `room`
-    /// is for n vertices or more; it may hold anything, also what an earlier listing left.
+    /// Starts a listing from the fresh position. `table` is the packed table of n vertices, `degrees` has the degree of
+    /// each, and `room` is for n vertices or more; it may hold anything, also what an earlier listing left.
     ///
     /// # Errors
     ///
     /// Any fault of the table, the degrees, n or the settings, as [`page`] tells it, and [`Refusal::Length`] where the
     /// room is for fewer than n vertices. The listing itself is refused nothing after that.
     pub fn new(
-        table: &'a [u8],
+        table: &'a [u64],
         degrees: &'a [u16],
         n: usize,
         settings: Settings,
@@ -126,7 +126,7 @@ impl<'a> Groups<'a> {
 
     /// The same in a room of either sort.
     pub(crate) fn start(
-        table: &'a [u8],
+        table: &'a [u64],
         degrees: &'a [u16],
         n: usize,
         settings: Settings,

@@ -43,23 +43,20 @@ pub const fn work_entries(n: usize) -> usize {
 
 /// Goes on with the walk over a graph and writes the groups it meets.
 ///
-/// `table` has n × n bytes, and `degrees` the degree of each vertex, as [`crate::fill_degrees`] counts them. `position`
-/// has n bytes, one a rank: all 0 at the start; hand on what the last call left. `output`, of any length, gets
-/// the record of each group, right from entry 0, for [`crate::records`] to read: its size, its outgoing edges divided
-/// by 65,536, the remainder, and then its vertices in rank order. Entries past `used` keep their contents.
-/// `work` has at least [`work_entries`] entries; its contents do not matter and are open afterwards. `budget` is the most
-/// steps to make. Each call tests the whole table anew. Where an edit leaves another table for a later page, nothing is
-/// said of the list that was begun before it: start again from a position of zeros.
-///
-/// Since 0.3.0 a record holds the outgoing edges, and this call kept its signature: code from before that reads the
-/// output by hand or lends n + 1 entries builds without a warning and is wrong, and it may never end, so lend
-/// [`crate::record_entries`] of n and read them by [`crate::records`].
+/// `table` is the packed table of n vertices, as [`crate::pack`] makes it, and `degrees` has the degree of each, as
+/// [`crate::fill_degrees`] counts them. `position` has n bytes, one a rank: all 0 at the start; hand on what the last
+/// call left. `output`, of any length, gets the record of each group, right from entry 0, for [`crate::records`] to read:
+/// its size, its outgoing edges divided by 65,536, the remainder, and then its vertices in rank order. Entries past `used`
+/// keep their contents. [`crate::record_entries`] of n entries hold any group. `work` has at least [`work_entries`]
+/// entries; its contents do not matter and are open afterwards. `budget` is the most steps to make. Each call tests the
+/// whole table anew. Where an edit leaves another table for a later page, nothing is said of the list that was begun
+/// before it: start again from a position of zeros.
 ///
 /// ```
 /// use isolated::{page, Kind, Notion, Settings, Stop};
 ///
 /// # fn main() -> Result<(), isolated::Refusal> {
-/// let (path, degrees) = ([0, 1, 0, 1, 0, 1, 0, 1, 0], [1, 2, 1]);
+/// let (path, degrees) = ([0b010, 0b101, 0b010], [1, 2, 1]);
 /// let settings = Settings::new(Notion::Max, Kind::MaximalIsolated, 2);
 /// let (mut position, mut output, mut work) = ([0; 3], [0; 6], [0; 24]);
 ///
@@ -76,16 +73,17 @@ pub const fn work_entries(n: usize) -> usize {
 ///
 /// # Errors
 ///
-/// The first of the refusals 1 to 5, 42, 6 to 10 and 21 to 23 that fits: [`Refusal::Vertices`] to [`Refusal::Symmetry`],
-/// [`Refusal::Degrees`], [`Refusal::Notion`] to [`Refusal::Work`] and [`Refusal::PositionByte`] to
-/// [`Refusal::PositionDead`]. Every slice is then as it was.
+/// The first of the refusals 1, 2, 45, 4, 5, 42, 6 to 10 and 21 to 23 that fits: [`Refusal::Vertices`],
+/// [`Refusal::TableLength`], [`Refusal::StrayBit`], [`Refusal::Diagonal`], [`Refusal::Symmetry`], [`Refusal::Degrees`],
+/// [`Refusal::Notion`] to [`Refusal::Work`] and [`Refusal::PositionByte`] to [`Refusal::PositionDead`]. Every slice is
+/// then as it was.
 ///
 /// # Panics
 ///
 /// Never with the proved library; only one with other answers could make it panic.
 #[expect(clippy::too_many_arguments, reason = "it has the arguments of the library's call, in their order")]
 pub fn page(
-    table: &[u8],
+    table: &[u64],
     degrees: &[u16],
     position: &mut [u8],
     output: &mut [u16],

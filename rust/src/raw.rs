@@ -1,10 +1,10 @@
-//! The six calls as the static library exports them, with the numbers of document 01 as plain numbers.
+//! The seven calls as the static library exports them, with the numbers of document 01 as plain numbers.
 //!
 //! This is `include/isolated.h` in Rust; [`crate::page`], [`crate::set_query`], [`crate::join`], [`crate::part`],
-//! [`crate::fill_degrees`] and [`crate::read_text`] are these calls over slices. A lent slice is a pointer and then its
-//! length in elements. For each call the pointers must be aligned, and not null unless the header allows it; each must
-//! lead to so many elements that may be read, and behind a `*mut` also written; and what may be written must overlap
-//! nothing else that is lent.
+//! [`crate::fill_degrees`], [`crate::read_text`] and [`crate::pack`] are these calls over slices. A lent slice is a
+//! pointer and then its length in elements. For each call the pointers must be aligned, and not null unless the header
+//! allows it; each must lead to so many elements that may be read, and behind a `*mut` also written; and what may be
+//! written must overlap nothing else that is lent.
 
 /// What [`isolated_page`] returns. Where the refusal is not 0, all other numbers are 0.
 #[repr(C)]
@@ -62,7 +62,7 @@ pub struct TextAnswer {
 extern "C" {
     /// Goes on with the walk over a graph and writes the groups it meets: see [`crate::page`].
     pub fn isolated_page(
-        table: *const u8,
+        table: *const u64,
         table_length: usize,
         degrees: *const u16,
         degrees_length: usize,
@@ -81,7 +81,7 @@ extern "C" {
 
     /// Says whether a set is a group: see [`crate::set_query`].
     pub fn isolated_set_query(
-        table: *const u8,
+        table: *const u64,
         table_length: usize,
         degrees: *const u16,
         degrees_length: usize,
@@ -97,7 +97,7 @@ extern "C" {
 
     /// Joins two vertices: see [`crate::join`].
     pub fn isolated_join(
-        table: *mut u8,
+        table: *mut u64,
         table_length: usize,
         degrees: *mut u16,
         degrees_length: usize,
@@ -108,7 +108,7 @@ extern "C" {
 
     /// Parts two vertices: see [`crate::part`].
     pub fn isolated_part(
-        table: *mut u8,
+        table: *mut u64,
         table_length: usize,
         degrees: *mut u16,
         degrees_length: usize,
@@ -119,7 +119,7 @@ extern "C" {
 
     /// Counts the degrees of a graph and returns the refusal's number: see [`crate::fill_degrees`].
     pub fn isolated_degrees(
-        table: *const u8,
+        table: *const u64,
         table_length: usize,
         degrees: *mut u16,
         degrees_length: usize,
@@ -128,4 +128,13 @@ extern "C" {
 
     /// Reads a graph in the DIMACS edge layout: see [`crate::read_text`].
     pub fn isolated_read_text(text: *const u8, text_length: usize, table: *mut u8, table_length: usize) -> TextAnswer;
+
+    /// Packs a byte table and returns the refusal's number: see [`crate::pack`].
+    pub fn isolated_pack(
+        bytes: *const u8,
+        bytes_length: usize,
+        packed: *mut u64,
+        packed_length: usize,
+        n: usize,
+    ) -> u32;
 }

@@ -38,7 +38,8 @@ macro_rules! refusals {
 
 refusals! {
     Vertices = 1, "n is over 1,024";
-    TableLength = 2, "the table's length is not n * n";
+    TableLength = 2, "the table's length is not that for n vertices";
+    /// Only [`crate::pack`] tells this.
     TableByte = 3, "a table byte is neither 0 nor 1";
     Diagonal = 4, "a vertex is joined to itself";
     Symmetry = 5, "the table is not symmetric";
@@ -70,6 +71,8 @@ refusals! {
     /// [`crate::Graph::asks`] tells this too, of a set.
     NoVertex = 43, "a vertex is not below n";
     EqualEnds = 44, "both ends of the pair are the same vertex";
+    /// Tested right after [`Refusal::TableLength`], of a packed table alone.
+    StrayBit = 45, "a row of the packed table has a bit at or past n";
 }
 
 impl Refusal {

@@ -12,7 +12,7 @@ pub struct TextGraph {
     /// The M of the p line, which is the number of e lines.
     ///
     /// Where a pair is repeated that is more than the graph has edges. Their number is half the sum of the degrees, so
-    /// half the ones among the first N × N bytes of the table; [`crate::Graph::edges`] tells it.
+    /// half the ones among the first N × N bytes of the byte table; [`crate::Graph::edges`] tells it.
     ///
     /// ```
     /// use isolated::{read_text, Graph};
@@ -44,8 +44,8 @@ impl fmt::Display for TextRefusal {
 
 impl std::error::Error for TextRefusal {}
 
-/// Reads a graph into the first N × N bytes of `table`; the rest is untouched. A pair may be given more than once, in
-/// either direction: it is one edge.
+/// Reads a graph into the first N × N bytes of `table`, as the byte table that [`crate::pack`] takes; the rest is
+/// untouched. A pair may be given more than once, in either direction: it is one edge.
 ///
 /// ```
 /// use isolated::{read_text, Refusal, TextRefusal};

@@ -1,6 +1,6 @@
 //! The graph that is kept: its edits, its lists and what it refuses.
 
-use isolated::{fill_degrees, page, records, set_query, work_entries};
+use isolated::{fill_degrees, page, records, row_numbers, set_query, table_numbers, work_entries};
 use isolated::{Graph, Group, Groups, Kind, Notion, Refusal, Room, Settings, Stop, TextRefusal, VERTICES};
 
 const MAX: Settings = Settings::new(Notion::Max, Kind::MaximalIsolated, 2);
@@ -31,19 +31,21 @@ fn listed(graph: &Graph, settings: Settings) -> Vec<Vec<u16>> {
     graph.groups(settings).unwrap().map(vertices).collect()
 }
 
-/// What it tells of itself is what its table holds.
+/// What it tells of itself is what its table holds, and the table's bits that are no vertex's are 0.
 fn check(graph: &Graph) {
     let n = graph.vertices();
+    let bit = |u: usize, v: usize| graph.table()[u * row_numbers(n) + v / 64] >> (v % 64) & 1 == 1;
+    assert_eq!(graph.table().len(), table_numbers(n));
+    assert!((0..n).all(|u| (n..64 * row_numbers(n)).all(|v| !bit(u, v))));
     let mut degrees = vec![0; n];
     assert_eq!(fill_degrees(graph.table(), &mut degrees, n), Ok(()));
     assert_eq!(graph.degrees(), degrees);
     for (u, &degree) in degrees.iter().enumerate() {
-        let joined = |v: usize| graph.table()[u * n + v] == 1;
         assert_eq!(graph.degree(u), Some(degree.into()));
-        assert_eq!(graph.neighbours(u).collect::<Vec<_>>(), (0..n).filter(|&v| joined(v)).collect::<Vec<_>>());
-        assert!((0..n).all(|v| graph.is_joined(u, v) == joined(v) && graph.is_joined(v, u) == joined(v)));
+        assert_eq!(graph.neighbours(u).collect::<Vec<_>>(), (0..n).filter(|&v| bit(u, v)).collect::<Vec<_>>());
+        assert!((0..n).all(|v| graph.is_joined(u, v) == bit(u, v) && graph.is_joined(v, u) == bit(u, v)));
     }
-    assert_eq!(2 * graph.edges(), graph.table().iter().map(|&byte| usize::from(byte)).sum());
+    assert_eq!(2 * graph.edges(), graph.table().iter().map(|number| number.count_ones() as usize).sum());
 }
 
 /// Every pair of five vertices is joined in turn, and parted again in another order.
@@ -68,6 +70,24 @@ fn edits_keep_table_and_degrees_together() {
         assert_eq!(graph.join(v, u), Ok(true));
     }
     assert_eq!(graph, complete);
+}
+
+/// Around the ends of a row's numbers: pairs of the first and the last vertices, and of those on both sides of an end.
+#[test]
+fn edits_where_a_number_of_a_row_ends() {
+    for n in [63, 64, 65, 127, 128, 129] {
+        let mut graph = Graph::new(n).unwrap();
+        let ends: Vec<usize> = [0, 1, 62, 63, 64, 65, 126, 127, 128].into_iter().filter(|&v| v < n).collect();
+        let pairs = || ends.iter().flat_map(|&u| ends.iter().map(move |&v| (u, v))).filter(|(u, v)| u < v);
+        for (u, v) in pairs() {
+            assert_eq!((graph.join(v, u), graph.is_joined(u, v)), (Ok(true), true), "{u} and {v} of {n}");
+        }
+        check(&graph);
+        for (u, v) in pairs() {
+            assert_eq!((graph.part(u, v), graph.is_joined(v, u)), (Ok(true), false), "{u} and {v} of {n}");
+        }
+        assert_eq!(graph, Graph::new(n).unwrap());
+    }
 }
 
 #[test]

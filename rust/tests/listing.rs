@@ -1,23 +1,24 @@
 //! The iterator over rooms of several sizes.
 
-use isolated::{page, set_query, work_entries, Group, Groups, Kind, Notion, Refusal, Room, Settings, FACTOR, VERTICES};
+use isolated::{page, row_numbers, set_query, table_numbers, work_entries};
+use isolated::{Group, Groups, Kind, Notion, Refusal, Room, Settings, FACTOR, VERTICES};
 use std::iter::FusedIterator;
 
 /// The table of a ring of n vertices, each joined to the next, and its degrees; of less than three no two are joined.
-fn ring(n: usize) -> (Vec<u8>, Vec<u16>) {
-    let (mut table, mut degrees) = (vec![0; n * n], vec![0; n]);
+fn ring(n: usize) -> (Vec<u64>, Vec<u16>) {
+    let (mut table, mut degrees) = (vec![0; table_numbers(n)], vec![0; n]);
     if n >= 3 {
         for u in 0..n {
             let v = (u + 1) % n;
-            table[u * n + v] = 1;
-            table[v * n + u] = 1;
+            table[u * row_numbers(n) + v / 64] |= 1 << (v % 64);
+            table[v * row_numbers(n) + u / 64] |= 1 << (u % 64);
             degrees[u] = 2;
         }
     }
     (table, degrees)
 }
 
-fn all_groups(graph: &(Vec<u8>, Vec<u16>), n: usize, settings: Settings, room: &mut Room) -> (Vec<Group>, u64) {
+fn all_groups(graph: &(Vec<u64>, Vec<u16>), n: usize, settings: Settings, room: &mut Room) -> (Vec<Group>, u64) {
     let mut groups = Groups::new(&graph.0, &graph.1, n, settings, room).unwrap();
     let list = groups.by_ref().collect();
     (list, groups.steps())
@@ -94,9 +95,9 @@ fn the_largest_room() {
     assert_eq!(Room::new(VERTICES + 1).vertices(), VERTICES);
     let mut room = Room::new(usize::MAX);
     let settings = Settings::new(Notion::Max, Kind::IsolatedMaximal, 1);
-    let most = (vec![0; VERTICES * VERTICES], vec![0; VERTICES]);
+    let most = (vec![0; table_numbers(VERTICES)], vec![0; VERTICES]);
     assert_eq!(all_groups(&most, VERTICES, settings, &mut room).0.len(), VERTICES);
-    let over = (vec![0; (VERTICES + 1) * (VERTICES + 1)], vec![0; VERTICES + 1]);
+    let over = (vec![0; table_numbers(VERTICES + 1)], vec![0; VERTICES + 1]);
     assert_eq!(Groups::new(&over.0, &over.1, VERTICES + 1, settings, &mut room).err(), Some(Refusal::Vertices));
 }
 

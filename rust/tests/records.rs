@@ -1,6 +1,6 @@
 //! The reader of the records that a page writes: document 02, C-14.
 
-use isolated::{fill_degrees, page, record_entries, records, work_entries};
+use isolated::{fill_degrees, pack, page, record_entries, records, table_numbers, work_entries};
 use isolated::{Graph, Group, Groups, Kind, Notion, Room, Settings, Stop, VERTICES};
 use std::iter::FusedIterator;
 
@@ -123,7 +123,7 @@ fn the_entries_of_a_record() {
 /// With `wanted` entries the walk moves on. With fewer it makes no step, until more are lent.
 #[test]
 fn what_a_full_page_wants() {
-    let (table, degrees) = ([0, 1, 1, 1, 0, 1, 1, 1, 0], [2, 2, 2]);
+    let (table, degrees) = ([0b110, 0b101, 0b011], [2, 2, 2]);
     let settings = Settings::new(Notion::Max, Kind::MaximalIsolated, 1);
     let (mut position, mut work) = ([0; 3], [0; 24]);
     let mut asked = |entries: usize| {
@@ -139,13 +139,13 @@ fn what_a_full_page_wants() {
     assert_eq!(asked(6), (Stop::Finished, 7, vec![group(&[0, 1, 2], 0)]));
 }
 
-/// The edges between these vertices and others, counted in the table.
-fn counted(table: &[u8], n: usize, vertices: &[u16]) -> u32 {
+/// The edges between these vertices and others, counted in the byte table.
+fn counted(bytes: &[u8], n: usize, vertices: &[u16]) -> u32 {
     let mut outside = vec![1; n];
     for &vertex in vertices {
         outside[usize::from(vertex)] = 0;
     }
-    let rows = vertices.iter().map(|&vertex| &table[usize::from(vertex) * n..][..n]);
+    let rows = vertices.iter().map(|&vertex| &bytes[usize::from(vertex) * n..][..n]);
     rows.map(|row| row.iter().zip(&outside).map(|(&byte, out)| u32::from(byte) * out).sum::<u32>()).sum()
 }
 
@@ -158,8 +158,9 @@ fn more_outgoing_edges_than_one_half_holds() {
     {
         let n = joined + further;
         let joins = |u: usize, v: usize| u != v && u.min(v) < joined;
-        let table: Vec<u8> = (0..n * n).map(|at| u8::from(joins(at / n, at % n))).collect();
-        let mut degrees = vec![0; n];
+        let bytes: Vec<u8> = (0..n * n).map(|at| u8::from(joins(at / n, at % n))).collect();
+        let (mut table, mut degrees) = (vec![0; table_numbers(n)], vec![0; n]);
+        pack(&bytes, &mut table, n).unwrap();
         fill_degrees(&table, &mut degrees, n).unwrap();
         let settings = Settings::new(Notion::Min, Kind::MaximalIsolated, 1);
 
@@ -171,7 +172,7 @@ fn more_outgoing_edges_than_one_half_holds() {
             let vertices = [one].into_iter().chain(0..joined);
             assert!(group.vertices.iter().copied().map(usize::from).eq(vertices));
             assert_eq!(group.outgoing_edges, outgoing_edges);
-            assert_eq!(group.outgoing_edges, counted(&table, n, &group.vertices));
+            assert_eq!(group.outgoing_edges, counted(&bytes, n, &group.vertices));
         }
 
         let (mut position, mut work) = (vec![0; n], vec![0; work_entries(n)]);

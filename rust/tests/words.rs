@@ -30,7 +30,7 @@ fn every_refusal_has_the_sentence_of_the_list() {
 #[test]
 fn every_number_has_its_refusal() {
     let named: Vec<u32> = (0..100).filter(|&number| Refusal::of_number(number).is_some()).collect();
-    let expected: Vec<u32> = (1..=11).chain(21..=23).chain(31..=40).chain(42..=44).collect();
+    let expected: Vec<u32> = (1..=11).chain(21..=23).chain(31..=40).chain(42..=45).collect();
     assert_eq!(named, expected);
     assert!(named.iter().all(|&number| Refusal::of_number(number).unwrap().number() == number));
 }

@@ -1,4 +1,7 @@
-/* Lists the groups of the claw with their outgoing edges, page by page, and asks about three sets. C99, and C++ too. */
+/*
+ * Reads the claw from a text, packs it, lists its groups with their outgoing edges, page by page, and asks about three
+ * sets. C99, and C++ too.
+ */
 #include "isolated.h"
 
 #include <stdio.h>
@@ -8,7 +11,7 @@ enum { VERTICES = 4 };
 
 static const char text[] = "c the claw\np edge 4 3\ne 1 2\ne 1 3\ne 1 4\n";
 
-static void list(const uint8_t *table, const uint16_t *degrees, size_t n, uint32_t notion, uint32_t kind, uint32_t c) {
+static void list(const uint64_t *table, const uint16_t *degrees, size_t n, uint32_t notion, uint32_t kind, uint32_t c) {
     uint8_t position[VERTICES] = {0};
     uint16_t output[ISOLATED_RECORD(VERTICES)];
     uint16_t work[ISOLATED_WORK(VERTICES)];
@@ -16,7 +19,7 @@ static void list(const uint8_t *table, const uint16_t *degrees, size_t n, uint32
     isolated_page_answer page;
     printf("notion %u kind %u c %u\n", notion, kind, c);
     do {
-        page = isolated_page(table, n * n, degrees, n, position, n, output, ISOLATED_RECORD(VERTICES), work,
+        page = isolated_page(table, ISOLATED_TABLE(n), degrees, n, position, n, output, ISOLATED_RECORD(VERTICES), work,
                              ISOLATED_WORK(VERTICES), n, notion, kind, c, 5);
         if (page.refusal != ISOLATED_REFUSED_NOT) {
             printf("refused %u: %s\n", page.refusal, isolated_refusal_text(page.refusal));
@@ -32,22 +35,24 @@ static void list(const uint8_t *table, const uint16_t *degrees, size_t n, uint32
     printf("end %u %u\n", groups, steps);
 }
 
-static void ask(const uint8_t *table, const uint16_t *degrees, size_t n, const uint8_t *set) {
+static void ask(const uint64_t *table, const uint16_t *degrees, size_t n, const uint8_t *set) {
     uint16_t work[ISOLATED_WORK(VERTICES)];
-    isolated_set_answer answer = isolated_set_query(table, n * n, degrees, n, set, n, work, ISOLATED_WORK(VERTICES), n,
-                                                    ISOLATED_MAX, ISOLATED_MAXIMAL_ISOLATED, 2);
+    isolated_set_answer answer =
+        isolated_set_query(table, ISOLATED_TABLE(n), degrees, n, set, n, work, ISOLATED_WORK(VERTICES), n, ISOLATED_MAX,
+                           ISOLATED_MAXIMAL_ISOLATED, 2);
     printf("set %u%u%u%u: refusal %u, %s\n", set[0], set[1], set[2], set[3], answer.refusal, answer.yes ? "yes" : "no");
 }
 
 int main(void) {
-    uint8_t table[VERTICES * VERTICES];
+    uint8_t bytes[VERTICES * VERTICES];
+    uint64_t table[ISOLATED_TABLE(VERTICES)];
     uint16_t degrees[VERTICES];
-    isolated_text_answer read =
-        isolated_read_text((const uint8_t *)text, strlen(text), table, sizeof table);
+    isolated_text_answer read = isolated_read_text((const uint8_t *)text, strlen(text), bytes, sizeof bytes);
     printf("read %u: %u vertices, %u e lines, line %zu\n", read.refusal, read.vertices, read.edges, read.line);
     if (read.refusal != ISOLATED_REFUSED_NOT) return 1;
     size_t n = read.vertices;
-    if (isolated_degrees(table, n * n, degrees, n, n) != ISOLATED_REFUSED_NOT) return 1;
+    if (isolated_pack(bytes, n * n, table, ISOLATED_TABLE(n), n) != ISOLATED_REFUSED_NOT) return 1;
+    if (isolated_degrees(table, ISOLATED_TABLE(n), degrees, n, n) != ISOLATED_REFUSED_NOT) return 1;
 
     list(table, degrees, n, ISOLATED_MAX, ISOLATED_MAXIMAL_ISOLATED, 2);
     list(table, degrees, n, ISOLATED_MAX, ISOLATED_ISOLATED_MAXIMAL, 2);
@@ -60,7 +65,7 @@ int main(void) {
     ask(table, degrees, n, pair);
     ask(table, degrees, n, no_set);
 
-    read = isolated_read_text((const uint8_t *)text, strlen(text) - 1, table, sizeof table - 1);
+    read = isolated_read_text((const uint8_t *)text, strlen(text) - 1, bytes, sizeof bytes - 1);
     printf("read %u: line %zu, as named: %d\n", read.refusal, read.line, read.refusal == ISOLATED_REFUSED_TABLE_SHORT);
     return 0;
 }

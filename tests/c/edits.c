@@ -8,7 +8,7 @@
 
 enum { N = 5 };
 
-static uint8_t table[N * N];
+static uint64_t table[ISOLATED_TABLE(N)];
 static uint16_t degrees[N];
 
 /* Lists all groups; each listing starts anew, since an edit may have changed the ranks. */
@@ -18,7 +18,7 @@ static void list(void) {
     isolated_page_answer page;
     printf("   ");
     do {
-        page = isolated_page(table, sizeof table, degrees, N, position, N, output, ISOLATED_RECORD(N), work,
+        page = isolated_page(table, ISOLATED_TABLE(N), degrees, N, position, N, output, ISOLATED_RECORD(N), work,
                              ISOLATED_WORK(N), N, ISOLATED_MAX, ISOLATED_MAXIMAL_ISOLATED, 1, 1000);
         if (page.refusal != ISOLATED_REFUSED_NOT) {
             printf(" refused %u: %s\n", (unsigned)page.refusal, isolated_refusal_text(page.refusal));
@@ -44,13 +44,19 @@ static void tell(const char *edit, size_t u, size_t v, isolated_edit_answer answ
     printf("\n");
 }
 
-static void join(size_t u, size_t v) { tell("join", u, v, isolated_join(table, sizeof table, degrees, N, N, u, v)); }
+static void join(size_t u, size_t v) {
+    tell("join", u, v, isolated_join(table, ISOLATED_TABLE(N), degrees, N, N, u, v));
+}
 
-static void part(size_t u, size_t v) { tell("part", u, v, isolated_part(table, sizeof table, degrees, N, N, u, v)); }
+static void part(size_t u, size_t v) {
+    tell("part", u, v, isolated_part(table, ISOLATED_TABLE(N), degrees, N, N, u, v));
+}
+
+static uint32_t count(void) { return isolated_degrees(table, ISOLATED_TABLE(N), degrees, N, N); }
 
 int main(void) {
     /* Five vertices without an edge: each is a group. */
-    if (isolated_degrees(table, sizeof table, degrees, N, N) != ISOLATED_REFUSED_NOT) return 1;
+    if (count() != ISOLATED_REFUSED_NOT) return 1;
     list();
 
     /* A triangle, with a fourth vertex that hangs on it. */
@@ -68,7 +74,7 @@ int main(void) {
 
     /* Vertex 1 leaves: it is parted from whatever it is joined to, and stays as a vertex without an edge. */
     for (size_t v = 0; v < N; v++) {
-        if (table[1 * N + v] == 1) part(1, v);
+        if (isolated_is_joined(table, N, 1, v)) part(1, v);
     }
     list();
 
@@ -77,10 +83,11 @@ int main(void) {
     join(4, 4);
 
     /* Whoever writes the table by himself counts the degrees again. */
-    table[3 * N + 4] = table[4 * N + 3] = 1;
+    table[3 * ISOLATED_ROW(N) + 4 / 64] |= ISOLATED_BIT(4);
+    table[4 * ISOLATED_ROW(N) + 3 / 64] |= ISOLATED_BIT(3);
     join(0, 1);
     list();
-    if (isolated_degrees(table, sizeof table, degrees, N, N) != ISOLATED_REFUSED_NOT) return 1;
+    if (count() != ISOLATED_REFUSED_NOT) return 1;
     join(0, 1);
     list();
     return 0;

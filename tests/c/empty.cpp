@@ -17,26 +17,27 @@ constexpr std::size_t claw = 4;
     std::exit(1);
 }
 
-// What is lent to one call. A slice that is empty is lent with a null pointer, or at the address of `valid`.
+// What is lent to one call. A slice that is empty is lent with a null pointer, or at the address of a valid element.
 struct Lent {
-    std::vector<std::uint8_t> table, bytes;
+    std::vector<std::uint64_t> table;
+    std::vector<std::uint8_t> bytes;
     std::vector<std::uint16_t> degrees, output, work;
     bool null;
+    std::uint64_t valid_number = 7;
     std::uint8_t valid_byte = 7;
     std::uint16_t valid_entry = 7;
 
-    std::uint8_t *at(std::vector<std::uint8_t> &slice) {
+    template <class Element> Element *at(std::vector<Element> &slice, Element &valid) {
         if (slice.empty() && slice.data() != nullptr) stop("an empty vector's data() is null");
-        return slice.empty() && !null ? &valid_byte : slice.data();
+        return slice.empty() && !null ? &valid : slice.data();
     }
-    std::uint16_t *at(std::vector<std::uint16_t> &slice) {
-        if (slice.empty() && slice.data() != nullptr) stop("an empty vector's data() is null");
-        return slice.empty() && !null ? &valid_entry : slice.data();
-    }
+    std::uint64_t *at(std::vector<std::uint64_t> &slice) { return at(slice, valid_number); }
+    std::uint8_t *at(std::vector<std::uint8_t> &slice) { return at(slice, valid_byte); }
+    std::uint16_t *at(std::vector<std::uint16_t> &slice) { return at(slice, valid_entry); }
     // The work slice is left out: its contents are open where a call is accepted.
     bool same(const Lent &other) const {
         return table == other.table && degrees == other.degrees && bytes == other.bytes && output == other.output &&
-               valid_byte == other.valid_byte && valid_entry == other.valid_entry;
+               valid_number == other.valid_number && valid_byte == other.valid_byte && valid_entry == other.valid_entry;
     }
 };
 
@@ -44,7 +45,7 @@ struct Lent {
 Lent lend(unsigned empty, bool null) {
     Lent it;
     it.null = null;
-    if (!(empty & 1)) it.table = {0, 1, 1, 1, 1, 0, 0, 0, 1, 0, 0, 0, 1, 0, 0, 0};
+    if (!(empty & 1)) it.table = {14, 1, 1, 1};
     if (!(empty & 2)) it.bytes.assign(claw, 0);
     if (!(empty & 4)) it.output.assign(ISOLATED_RECORD(claw), 9);
     if (!(empty & 8)) it.work.assign(ISOLATED_WORK(claw), 9);
@@ -64,7 +65,7 @@ isolated_set_answer query(Lent &it, std::size_t n, std::uint32_t c) {
                               ISOLATED_MAXIMAL_ISOLATED, c);
 }
 
-using Edit = isolated_edit_answer (*)(std::uint8_t *, std::size_t, std::uint16_t *, std::size_t, std::size_t,
+using Edit = isolated_edit_answer (*)(std::uint64_t *, std::size_t, std::uint16_t *, std::size_t, std::size_t,
                                       std::size_t, std::size_t);
 
 isolated_edit_answer edit(Edit call, Lent &it, std::size_t n) {
@@ -73,6 +74,10 @@ isolated_edit_answer edit(Edit call, Lent &it, std::size_t n) {
 
 std::uint32_t degrees(Lent &it, std::size_t n) {
     return isolated_degrees(it.at(it.table), it.table.size(), it.at(it.degrees), it.degrees.size(), n);
+}
+
+std::uint32_t pack(Lent &it, std::size_t n) {
+    return isolated_pack(it.at(it.bytes), it.bytes.size(), it.at(it.table), it.table.size(), n);
 }
 
 bool same(const isolated_page_answer &a, const isolated_page_answer &b) {
@@ -115,6 +120,26 @@ void edits_and_counts() {
             Lent null = lend(empty, true), valid = lend(empty, false);
             if (degrees(null, n) != degrees(valid, n) || !null.same(valid)) {
                 stop("a count of the degrees takes null as an empty slice");
+            }
+        }
+    }
+}
+
+// Every choice of empty slices, with no vertices and with two: the table of bytes is that of an edge, packed into two
+// numbers.
+void packings() {
+    for (unsigned empty = 0; empty < 4; empty++) {
+        for (std::size_t n : {std::size_t(0), std::size_t(2)}) {
+            Lent null = lend(31, true), valid = lend(31, false);
+            for (Lent *it : {&null, &valid}) {
+                if (!(empty & 1)) it->bytes = {0, 1, 1, 0};
+                if (!(empty & 2)) it->table.assign(2, 9);
+            }
+            const std::uint32_t refusal = pack(null, n);
+            if (refusal != pack(valid, n) || !null.same(valid)) stop("a packing takes null as an empty slice");
+            const bool fits = n == 0 ? empty == 3 : empty == 0;
+            if (refusal != (fits ? ISOLATED_REFUSED_NOT : ISOLATED_REFUSED_TABLE_LENGTH)) {
+                stop("a packing is refused for the slice it lacks");
             }
         }
     }
@@ -182,6 +207,7 @@ void reads() {
 int main() {
     pages_and_queries();
     edits_and_counts();
+    packings();
     answers();
     reads();
     return 0;

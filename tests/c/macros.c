@@ -2,8 +2,9 @@
  * Provokes what each macro of the header names and compares it with the number that document 01 has for it, which is
  * written out here once more: a number that is changed in the header alone is found. One refusal can't be provoked any
  * more; its number alone is compared. What reads the outgoing edges of a record is tried on numbers of one half and of
- * two, and on records that a page wrote. The one argument is the number that the program `isolated` told of a text that
- * is too long. Ends with status 1 at the first difference.
+ * two, and on records that a page wrote; what reads a bit of the packed table, on rows of three numbers. The one
+ * argument is the number that the program `isolated` told of a text that is too long. Ends with status 1 at the first
+ * difference.
  */
 #include "isolated.h"
 
@@ -13,7 +14,8 @@
 
 enum { MOST = 1024, OVER = MOST + 1, CLAW = 4 };
 
-static uint8_t table[OVER * OVER], bytes[OVER];
+static uint8_t byte_table[OVER * OVER], bytes[OVER];
+static uint64_t table[OVER * 17];
 static uint16_t degrees[OVER], output[MOST + 3], work[16 * OVER];
 
 /* What a call told and the macro are both the number; or the macro is, whose effect is tried beside it. */
@@ -39,14 +41,22 @@ typedef struct call {
     size_t u, v;
 } call;
 
+/* The bit of v in the row of u, by its number and its weight. */
+static uint64_t *number_of(size_t n, size_t u, size_t v) { return &table[u * ((n + 63) / 64) + v / 64]; }
+static uint64_t weight_of(size_t v) { return (uint64_t)1 << (v % 64); }
+
+static int has(size_t n, size_t u, size_t v) { return (*number_of(n, u, v) & weight_of(v)) != 0; }
+static void set(size_t n, size_t u, size_t v) { *number_of(n, u, v) |= weight_of(v); }
+
 static void put(size_t n, size_t u, size_t v) {
-    table[u * n + v] = table[v * n + u] = 1;
+    set(n, u, v);
+    set(n, v, u);
     degrees[u]++, degrees[v]++;
 }
 
 /* A call that is accepted, on n vertices with no edge and nothing decided or in the set. */
 static call on_vertices(size_t n) {
-    call it = {n, n * n, n, n, n + 3, 8 * n, 0, 0, 1, 0, 0, 1};
+    call it = {n, n * ((n + 63) / 64), n, n, n + 3, 8 * n, 0, 0, 1, 0, 0, 1};
     memset(table, 0, sizeof table);
     memset(degrees, 0, sizeof degrees);
     memset(bytes, 0, sizeof bytes);
@@ -83,7 +93,12 @@ static isolated_edit_answer part(call it) {
 static uint32_t count(call it) { return isolated_degrees(table, it.table_length, degrees, it.degrees_length, it.n); }
 
 static isolated_text_answer read_text(const char *text, size_t table_length) {
-    return isolated_read_text((const uint8_t *)text, strlen(text), table, table_length);
+    return isolated_read_text((const uint8_t *)text, strlen(text), byte_table, table_length);
+}
+
+/* The byte table into the packed one, each with a length of its own. */
+static uint32_t pack(size_t bytes_length, size_t packed_length, size_t n) {
+    return isolated_pack(byte_table, bytes_length, table, packed_length, n);
 }
 
 /* What page and set query refuse alike. */
@@ -109,15 +124,17 @@ static isolated_text_answer read_text(const char *text, size_t table_length) {
 static void refusals_of_the_graph(void) {
     call it = on_claw();
     ALL_REFUSE(it, ISOLATED_REFUSED_NOT, 0);
-    it = on_claw(), it.n = OVER, it.table_length = OVER * OVER;
+    it = on_claw(), it.n = OVER, it.table_length = OVER * 17;
     ALL_REFUSE(it, ISOLATED_REFUSED_VERTICES, 1);
     it = on_claw(), it.table_length--;
     ALL_REFUSE(it, ISOLATED_REFUSED_TABLE_LENGTH, 2);
-    it = on_claw(), table[1] = 2;
-    ALL_REFUSE(it, ISOLATED_REFUSED_TABLE_BYTE, 3);
-    it = on_claw(), table[0] = 1;
+    it = on_claw(), set(CLAW, 2, CLAW);
+    ALL_REFUSE(it, ISOLATED_REFUSED_STRAY_BIT, 45);
+    it = on_claw(), set(CLAW, 3, 63);
+    ALL_REFUSE(it, ISOLATED_REFUSED_STRAY_BIT, 45);
+    it = on_claw(), set(CLAW, 0, 0);
     ALL_REFUSE(it, ISOLATED_REFUSED_DIAGONAL, 4);
-    it = on_claw(), table[1] = 0;
+    it = on_claw(), set(CLAW, 1, 2);
     ALL_REFUSE(it, ISOLATED_REFUSED_SYMMETRY, 5);
     it = on_claw(), it.degrees_length--;
     ALL_REFUSE(it, ISOLATED_REFUSED_DEGREES, 42);
@@ -128,6 +145,25 @@ static void refusals_of_the_graph(void) {
     EDITS_REFUSE(it, ISOLATED_REFUSED_DEGREES, 42);
     SAME(count(it), ISOLATED_REFUSED_NOT, 0); /* it writes the right one */
     BOTH_REFUSE(it, ISOLATED_REFUSED_NOT, 0);
+}
+
+/* A byte table of three vertices, 0 and 2 joined: its faults, and then what it is packed into. */
+static void refusals_of_a_packing(void) {
+    static const uint8_t pair[] = {0, 0, 1, 0, 0, 0, 1, 0, 0};
+    memset(table, 9, sizeof table);
+    SAME(pack(OVER * OVER, OVER * 17, OVER), ISOLATED_REFUSED_VERTICES, 1);
+    SAME(pack(8, 3, 3), ISOLATED_REFUSED_TABLE_LENGTH, 2);
+    SAME(pack(9, 4, 3), ISOLATED_REFUSED_TABLE_LENGTH, 2);
+    memcpy(byte_table, pair, sizeof pair), byte_table[2] = 2;
+    SAME(pack(9, 3, 3), ISOLATED_REFUSED_TABLE_BYTE, 3);
+    memcpy(byte_table, pair, sizeof pair), byte_table[4] = 1;
+    SAME(pack(9, 3, 3), ISOLATED_REFUSED_DIAGONAL, 4);
+    memcpy(byte_table, pair, sizeof pair), byte_table[6] = 0;
+    SAME(pack(9, 3, 3), ISOLATED_REFUSED_SYMMETRY, 5);
+    hold("a refused packing writes nothing", table[0] == table[4] && table[1] == table[4] && table[2] == table[4]);
+    memcpy(byte_table, pair, sizeof pair);
+    SAME(pack(9, 3, 3), ISOLATED_REFUSED_NOT, 0);
+    hold("0 and 2 are joined", table[0] == 4 && table[1] == 0 && table[2] == 1);
 }
 
 static void refusals_of_an_edit(void) {
@@ -144,12 +180,12 @@ static void refusals_of_an_edit(void) {
 static void edits(void) {
     call it = on_claw();
     isolated_edit_answer answer = part(it);
-    hold("a pair is parted", answer.refusal == 0 && answer.unchanged == 0 && table[1] == 0 && table[4] == 0);
+    hold("a pair is parted", answer.refusal == 0 && answer.unchanged == 0 && table[0] == 12 && table[1] == 0);
     hold("its degrees follow", degrees[0] == 2 && degrees[1] == 0 && degrees[2] == 1 && degrees[3] == 1);
     answer = part(it);
     hold("nothing is left to part", answer.refusal == 0 && answer.unchanged == 1 && degrees[0] == 2);
     answer = join(it);
-    hold("a pair is joined", answer.refusal == 0 && answer.unchanged == 0 && table[1] == 1 && table[4] == 1);
+    hold("a pair is joined", answer.refusal == 0 && answer.unchanged == 0 && table[0] == 14 && table[1] == 1);
     answer = join(it);
     hold("nothing is left to join", answer.refusal == 0 && answer.unchanged == 1 && degrees[0] == 3);
 }
@@ -186,7 +222,7 @@ static void refusals_of_the_text(void) {
     SAME(read_text("p edge 2\n", 4).refusal, ISOLATED_REFUSED_FORM, 32);
     SAME(read_text("e 1 2\n", 4).refusal, ISOLATED_REFUSED_NO_P_LINE, 33);
     SAME(read_text("p edge 2 0\np edge 2 0\n", 4).refusal, ISOLATED_REFUSED_SECOND_P_LINE, 34);
-    SAME(read_text("p edge 1025 0\n", sizeof table).refusal, ISOLATED_REFUSED_TEXT_VERTICES, 35);
+    SAME(read_text("p edge 1025 0\n", sizeof byte_table).refusal, ISOLATED_REFUSED_TEXT_VERTICES, 35);
     SAME(read_text("p edge 2 1\ne 1 3\n", 4).refusal, ISOLATED_REFUSED_RANGE, 36);
     SAME(read_text("p edge 2 1\ne 1 1\n", 4).refusal, ISOLATED_REFUSED_SAME_VERTEX, 37);
     SAME(read_text("p edge 2 2\ne 1 2\n", 4).refusal, ISOLATED_REFUSED_EDGE_COUNT, 39);
@@ -198,11 +234,11 @@ static void repeated_pair(void) {
     static const uint8_t one_edge[] = {0, 1, 1, 0};
     isolated_text_answer answer;
     IS(ISOLATED_REFUSED_REPEATED_PAIR, 38);
-    memset(table, 9, sizeof one_edge);
+    memset(byte_table, 9, sizeof one_edge);
     answer = read_text("p edge 2 2\ne 1 2\ne 2 1\n", sizeof one_edge);
     SAME(answer.refusal, ISOLATED_REFUSED_NOT, 0);
     hold("N is 2 and M is 2", answer.vertices == 2 && answer.edges == 2 && answer.line == 0);
-    hold("the table has one edge", memcmp(table, one_edge, sizeof one_edge) == 0);
+    hold("the byte table has one edge", memcmp(byte_table, one_edge, sizeof one_edge) == 0);
     SAME(read_text("p edge 2 1\ne 1 2\ne 2 1\n", 4).refusal, ISOLATED_REFUSED_EDGE_COUNT, 39);
 }
 
@@ -230,6 +266,54 @@ static void bounds(void) {
     it.work_length = ISOLATED_WORK(MOST) - 1;
     BOTH_REFUSE(it, ISOLATED_REFUSED_WORK, 10);
     IS(ISOLATED_WORK(MOST), 8192);
+}
+
+/* A table of so many numbers is accepted, and one that has one more or less is not. */
+static void table_lengths(void) {
+    static const size_t vertices[] = {0, 1, 63, 64, 65, 128, 129, MOST};
+    static const size_t rows[] = {0, 1, 1, 1, 2, 2, 3, 16};
+    for (size_t i = 0; i < sizeof vertices / sizeof *vertices; i++) {
+        size_t n = vertices[i], row = ISOLATED_ROW(n), length = ISOLATED_TABLE(n);
+        call it = on_vertices(n);
+        same("ISOLATED_ROW", row, row, rows[i]);
+        same("ISOLATED_TABLE", length, length, n * rows[i]);
+        it.table_length = ISOLATED_TABLE(n);
+        BOTH_REFUSE(it, ISOLATED_REFUSED_NOT, 0);
+        it.table_length = ISOLATED_TABLE(n) + 1;
+        BOTH_REFUSE(it, ISOLATED_REFUSED_TABLE_LENGTH, 2);
+        it.table_length = ISOLATED_TABLE(n) - 1;
+        if (n > 0) BOTH_REFUSE(it, ISOLATED_REFUSED_TABLE_LENGTH, 2);
+    }
+}
+
+/* Whether the packed table of n vertices is that of the byte table: as the header reads it, and number by number. */
+static int is_packed(size_t n) {
+    for (size_t at = 0; at < n * n; at++) {
+        size_t u = at / n, v = at % n;
+        if (isolated_is_joined(table, n, u, v) != byte_table[at] || has(n, u, v) != byte_table[at]) return 0;
+    }
+    return 1;
+}
+
+/* The bits that are read are those that edits and a packing set, in each number of a row. */
+static void bits_of_a_row(void) {
+    enum { N = 130 };
+    static const size_t ends[][2] = {{0, 63}, {1, 64}, {62, 129}, {63, 65}, {127, 128}};
+    call it = on_vertices(N);
+    memset(byte_table, 0, sizeof byte_table);
+    for (size_t i = 0; i < sizeof ends / sizeof *ends; i++) {
+        it.u = ends[i][0], it.v = ends[i][1];
+        hold("a pair of a longer row is joined", join(it).refusal == 0);
+        byte_table[it.u * N + it.v] = byte_table[it.v * N + it.u] = 1;
+    }
+    hold("the pairs that were joined are read", is_packed(N));
+    memset(table, 9, sizeof table);
+    SAME(pack((size_t)N * N, ISOLATED_TABLE(N), N), ISOLATED_REFUSED_NOT, 0);
+    hold("the pairs that were packed are read", is_packed(N));
+    IS(ISOLATED_BIT(0), 1);
+    IS(ISOLATED_BIT(63), (uint64_t)1 << 63);
+    IS(ISOLATED_BIT(64), 1);
+    IS(ISOLATED_BIT(130), 4);
 }
 
 /* Entries that no record of these tests has, and whether the output still has them from entry `used` on. */
@@ -307,7 +391,9 @@ static void many_outgoing_edges(void) {
         uint32_t edges = 0;
         hold("a group has 257 vertices", record[0] == JOINED + 1);
         for (size_t i = 0; i < record[0]; i++) inside[record[3 + i]] = 1;
-        for (size_t at = 0; at < (size_t)ALL * ALL; at++) edges += inside[at / ALL] && !inside[at % ALL] && table[at];
+        for (size_t at = 0; at < (size_t)ALL * ALL; at++) {
+            edges += inside[at / ALL] && !inside[at % ALL] && has(ALL, at / ALL, at % ALL);
+        }
         same("the outgoing edges of a group", isolated_outgoing_edges(record), edges, 65536);
     }
 }
@@ -373,6 +459,7 @@ static void version(void) {
 
 int main(int count, char **words) {
     refusals_of_the_graph();
+    refusals_of_a_packing();
     refusals_of_an_edit();
     edits();
     refusals_of_the_input();
@@ -380,6 +467,8 @@ int main(int count, char **words) {
     refusals_of_the_text();
     repeated_pair();
     bounds();
+    table_lengths();
+    bits_of_a_row();
     record_lengths();
     outgoing_edges();
     many_outgoing_edges();

@@ -7,7 +7,8 @@
 
 enum { N = 48, C = 6, THREADS = 4, ROUNDS = 25, ROOM = 4096 };
 
-static uint8_t table[N * N];
+static uint8_t bytes[N * N];
+static uint64_t table[ISOLATED_TABLE(N)];
 static uint16_t degrees[N];
 
 /* One walk: its settings, and the joined output and the totals of its pages. */
@@ -25,8 +26,8 @@ static void *list(void *of) {
     isolated_page_answer page;
     it->groups = it->steps = 0, it->used = 0;
     do {
-        page = isolated_page(table, sizeof table, degrees, N, position, N, it->list + it->used, ROOM - it->used, work,
-                             ISOLATED_WORK(N), N, it->notion, it->kind, C, 50);
+        page = isolated_page(table, ISOLATED_TABLE(N), degrees, N, position, N, it->list + it->used, ROOM - it->used,
+                             work, ISOLATED_WORK(N), N, it->notion, it->kind, C, 50);
         it->groups += page.groups, it->steps += page.steps, it->used += page.used;
     } while (page.stop == ISOLATED_STOP_SPENT);
     it->whole = page.stop == ISOLATED_STOP_FINISHED;
@@ -42,9 +43,10 @@ int main(void) {
     static walk alone[THREADS], at_once[THREADS];
     pthread_t threads[THREADS];
     for (size_t u = 0; u < N; u++) {
-        for (size_t v = 0; v < u; v++) table[u * N + v] = table[v * N + u] = (u * u + v * v) % 7 < 2 || u / 4 == v / 4;
+        for (size_t v = 0; v < u; v++) bytes[u * N + v] = bytes[v * N + u] = (u * u + v * v) % 7 < 2 || u / 4 == v / 4;
     }
-    if (isolated_degrees(table, sizeof table, degrees, N, N) != ISOLATED_REFUSED_NOT) return 2;
+    if (isolated_pack(bytes, sizeof bytes, table, ISOLATED_TABLE(N), N) != ISOLATED_REFUSED_NOT) return 2;
+    if (isolated_degrees(table, ISOLATED_TABLE(N), degrees, N, N) != ISOLATED_REFUSED_NOT) return 2;
     for (int i = 0; i < THREADS; i++) {
         alone[i].notion = at_once[i].notion = i % 2 == 0 ? ISOLATED_MAX : ISOLATED_MIN;
         alone[i].kind = at_once[i].kind = i / 2 == 0 ? ISOLATED_MAXIMAL_ISOLATED : ISOLATED_ISOLATED_MAXIMAL;

@@ -1,2 +1,3 @@
 -- The theorem about what the program prints.
 pub mod Whole
+pub mod Packed

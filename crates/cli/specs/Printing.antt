@@ -1,5 +1,6 @@
 -- What the program prints, as far as its functions promise it: what is printed of its pages, in their order, and its last line. Assumes nothing.
 use Rattle.std.specs.Prelude.{ℕ, ◌*◌, ◌≡◌, Bool, true, List, [], ◌++◌, take, Result, Ok, Err}
+use Rattle.model.specs.Graph.{by_table}
 use Rattle.model.specs.Program.{settings_of_words, program_verdict, Prints}
 use Rattle.theory.specs.Printed.{printed_pages, Begins}
 use Rattle.isolation.specs.Numbers.{settings_of}
@@ -23,7 +24,7 @@ unlisted_if_cut (Err l) = Err Cut
 -- what is listed for a verdict: the pages of its graph; of a refusal nothing is listed
 abbrev pub ListedBy : Result Listing Refused → List ℕ → Result Totals Unlisted → Type 0
 ListedBy (Err r) t l = l ≡ Err (TurnedBack r)
-ListedBy (Ok q) t l = (r : Result Totals Totals) × (l ≡ unlisted_if_cut r) × Ran q.vertices (take (q.vertices * q.vertices) t) (settings_of q.settings) r
+ListedBy (Ok q) t l = (r : Result Totals Totals) × (l ≡ unlisted_if_cut r) × Ran (by_table q.vertices (take (q.vertices * q.vertices) t)) (settings_of q.settings) r
 
 -- a verdict is answered: what it asks for is listed, and the outcome goes by this list and by whether its last line was written, which may be either
 pub record Answers (v : Result Listing Refused) (t : List ℕ) (o : Outcome) : Type 0 where

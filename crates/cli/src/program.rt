@@ -1,7 +1,8 @@
 // The program: it reads its words and its text, decides, and prints a refusal or all groups and the totals.
 ghost use Rattle.std.specs.Prelude.{◌≡◌, replicate};
+ghost use Rattle.model.specs.Graph.{by_table};
+ghost use Rattle.model.specs.Calls.{refuse_table};
 ghost use Rattle.isolation.specs.Numbers.{settings_of};
-ghost use Rattle.graph.specs.Table.{lent_table};
 ghost use Rattle.listing.specs.List.{Ran};
 ghost use Rattle.request.specs.Verdict.{Fine};
 ghost use Rattle.ending.specs.Ending.{last_line};
@@ -9,9 +10,10 @@ ghost use Rattle.cli.specs.Printing.{ListedBy, Answers, Responds};
 
 use crate::reading::read_wanted;
 use ending::{Outcome, Unlisted, outcome_of, put_last_line, put_outcome_line};
-use graph::{Lent, Table};
+use graph::{Lent, Table, row_length};
 use listing::list_all;
 use listing::totals::Totals;
+use pack::ByteTable;
 use print::Printer;
 use request::verdict::{Listing, Verdict, decide};
 use request::words::Arguments;
@@ -26,23 +28,32 @@ const OUTPUT: usize = 8192;
 
 const PRINTED: usize = 6 * OUTPUT;
 
-// Prints "one line a group" of a graph of at most 256 vertices. Memory: a degree and a position byte for each vertex, the output of a page, and the work
-// slice of 256 vertices.
+// Prints "one line a group" of a graph of at most 256 vertices, which a table of bytes holds. Memory: the packed table of 256 rows of four numbers, a degree
+// and a position byte for each vertex, the output of a page, and the work slice of 256 vertices.
 fn list_graph(
     rt: &impl Print,
     table: &[u8],
     listing: Listing,
     bytes: &mut [u8; PRINTED],
 ) -> Result<Totals, Totals>
-    requires { (lent_table listing.vertices table.now).fault ≡ 0 }
-    ensures { Ran listing.vertices table.now (settings_of listing.settings) result }
+    requires { refuse_table listing.vertices table.now ≡ 0 }
+    ensures { Ran (by_table listing.vertices table.now) (settings_of listing.settings) result }
 {
     let n = listing.vertices;
+    let mut packed = [0u64; 1024];
     let mut degrees = [0u16; 256];
     let mut position = [0u8; 256];
     let mut output = [0u16; OUTPUT];
     let mut work = [0u16; 2048];
-    let table = Table { bytes: table, n };
+    let width = row_length(n);
+    let length = n * width;
+    let packed = &mut packed[..length];
+    ByteTable { bytes: table, n }.fill(packed);
+    let table = Table {
+        numbers: packed,
+        n,
+        width,
+    };
     let degrees = &mut degrees[..n];
     table.fill_degrees(degrees);
     let lent = Lent { table, degrees };

@@ -1,5 +1,5 @@
--- Demands 2 and 3, C-11, C-12 and C-14 hold of the compiled functions `page::page`, `query::set_query`, `dimacs::read_text`, `edits::join`, `edits::part` and
--- `edits::list_degrees`, and of the calls of crate `ffi`, whose contracts those that C and Rust link, in `ffi_c`, repeat. Nothing of a contract is restated: `promised` is the contract that the checker proved.
+-- Demands 2 and 3, C-11, C-12, C-14 and C-15 hold of the compiled functions `page::page`, `query::set_query`, `dimacs::read_text`, `edits::join`, `edits::part`,
+-- `edits::list_degrees` and `pack::pack`, and of the calls of crate `ffi`, whose contracts those that C and Rust link, in `ffi_c`, repeat. Nothing of a contract is restated: `promised` is the contract that the checker proved.
 -- Assumes nothing.
 use mathlib.Core.Bool.{true, false}
 use mathlib.Core.Logic.{inl, inr}
@@ -19,19 +19,23 @@ use Rattle.edits.proofs.join.Kinds as edit-kinds
 use Rattle.edits.proofs.part.Reads as part
 use Rattle.edits.proofs.list_degrees.Reads as list
 use Rattle.edits.proofs.list_degrees.Kinds as list-kinds
+use Rattle.pack.proofs.packing.pack.Reads as pack
+use Rattle.pack.proofs.packing.pack.Kinds as pack-kinds
 use Rattle.ffi.proofs.isolated_page.Reads as exported-page
 use Rattle.ffi.proofs.isolated_set_query.Reads as exported-query
 use Rattle.ffi.proofs.isolated_read_text.Reads as exported-reader
 use Rattle.ffi.proofs.isolated_join.Reads as exported-join
 use Rattle.ffi.proofs.isolated_part.Reads as exported-part
 use Rattle.ffi.proofs.isolated_degrees.Reads as exported-list
+use Rattle.ffi.proofs.isolated_pack.Reads as exported-pack
 use Rattle.demand.specs.Demand.{Promised, Calls}
-use Rattle.demand.specs.Compiled.{Compiled, AsksNothing, CompiledPage, call_of, Chained, PageHolds, ListHolds, RecordsHold, WantsHolds, QueryHolds, ReaderHolds, Never38Holds, ComparesLinesHolds, RepeatsHold, made, EditHolds, CompiledEdit, edit_of, UndoHolds, ChainHolds, RestoredHolds, ListedHolds}
+use Rattle.demand.specs.Compiled.{Compiled, AsksNothing, CompiledPage, call_of, Chained, PageHolds, ListHolds, RecordsHold, WantsHolds, QueryHolds, ReaderHolds, Never38Holds, ComparesLinesHolds, RepeatsHold, made, EditHolds, CompiledEdit, edit_of, UndoHolds, ChainHolds, RestoredHolds, ListedHolds, PackHolds, PagesAlikeHold, QueriesAlikeHold, EditsAlikeHold, ListsAlikeHold}
 use Rattle.demand.specs.Edits.{Replied, AllReplied}
 use Rattle.demand.proofs.Demand.{demand}
 use Rattle.demand.proofs.Membership.{query_demand, list_demand, reader_demand}
 use Rattle.demand.proofs.Repeats.{never_38_demand, compares_lines_demand, repeats_demand}
 use Rattle.demand.proofs.Records.{records_demand, wants_demand}
+use Rattle.demand.proofs.Packing.{pack_demand, alike_demand}
 use Rattle.demand.proofs.Edits.{edit_demand, undo_demand, edits_chain_demand, restored_demand, listed_demand}
 
 -- ---- none of these functions asks for anything
@@ -71,6 +75,12 @@ exported_part_asks_nothing κs a = tt
 
 pub exported_list_asks_nothing : AsksNothing 2 list-kinds.ps exported-list.Pre
 exported_list_asks_nothing κs a = tt
+
+pub pack_asks_nothing : AsksNothing 2 pack-kinds.ps pack.Pre
+pack_asks_nothing κs a = tt
+
+pub exported_pack_asks_nothing : AsksNothing 2 pack-kinds.ps exported-pack.Pre
+exported_pack_asks_nothing κs a = tt
 
 -- ---- the page call
 
@@ -213,3 +223,43 @@ exported_restored_demand = restored-holds exported-join.Post exported-part.Post 
 
 pub exported_degrees_demand : ListedHolds exported-list.Post
 exported_degrees_demand k = listed_demand _ _ _ _ _ k.promised
+
+-- ---- packed tables
+
+-- C-15 of `pack::pack`, `page::page`, `query::set_query`, `edits::join`, `edits::part` and `edits::list_degrees`.
+pub compiled_pack_demand : PackHolds pack.Post
+compiled_pack_demand k = pack_demand _ _ _ _ _ k.promised
+
+pub compiled_pages_alike : PagesAlikeHold page.Post
+compiled_pages_alike k = alike_demand.pages (call_of k) k.promised
+
+pub compiled_queries_alike : QueriesAlikeHold query.Post
+compiled_queries_alike k t both = alike_demand.queries _ _ _ _ _ _ _ _ _ _ _ both k.promised
+
+pub compiled_join_alike : EditsAlikeHold true join.Post
+compiled_join_alike k = alike_demand.edits (made true k) k.promised
+
+pub compiled_part_alike : EditsAlikeHold false part.Post
+compiled_part_alike k = alike_demand.edits (made false k) k.promised
+
+pub compiled_lists_alike : ListsAlikeHold list.Post
+compiled_lists_alike k t both = alike_demand.lists _ _ _ _ _ _ both k.promised
+
+-- C-15 of `isolated_pack`, `isolated_page`, `isolated_set_query`, `isolated_join`, `isolated_part` and `isolated_degrees`.
+pub exported_pack_demand : PackHolds exported-pack.Post
+exported_pack_demand k = pack_demand _ _ _ _ _ k.promised
+
+pub exported_pages_alike : PagesAlikeHold exported-page.Post
+exported_pages_alike k = alike_demand.pages (call_of k) k.promised
+
+pub exported_queries_alike : QueriesAlikeHold exported-query.Post
+exported_queries_alike k t both = alike_demand.queries _ _ _ _ _ _ _ _ _ _ _ both k.promised
+
+pub exported_join_alike : EditsAlikeHold true exported-join.Post
+exported_join_alike k = alike_demand.edits (made true k) k.promised
+
+pub exported_part_alike : EditsAlikeHold false exported-part.Post
+exported_part_alike k = alike_demand.edits (made false k) k.promised
+
+pub exported_lists_alike : ListsAlikeHold exported-list.Post
+exported_lists_alike k t both = alike_demand.lists _ _ _ _ _ _ both k.promised

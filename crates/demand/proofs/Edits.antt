@@ -11,7 +11,7 @@ use Rattle.model.specs.Below.{bit}
 use Rattle.model.specs.Fault.{FirstFault}
 use Rattle.model.specs.Edits.{refuse_edit, EditReply, edit_call, Edited, refuse_list}
 use Rattle.theory.proofs.Basics.Tests.{bit-one}
-use Rattle.theory.proofs.Calls.TableFaults.{byte_table_lem}
+use Rattle.theory.proofs.Calls.PackedFaults.{packed_table_lem}
 use Rattle.theory.proofs.Calls.DegreeFaults.{with_degrees_lem, lent-once}
 use Rattle.theory.proofs.Calls.Edits.{edit_number, edit_left, edit_first, edited, edit_chains, edit_undone, edit_turned}
 use Rattle.theory.proofs.Calls.DegreesCall.{list-number, list_left, list_done, list-first, list_chains}
@@ -56,7 +56,7 @@ module _ {b : Bool} {n : ℕ} {t d : List ℕ} {u v : ℕ} {a : EditAnswer} {t�
 pub edit_demand : EditDemand
 edit_demand b n t d u v a t₁ d₁ h =
     record {
-      first = subst⁻¹ (FirstFault _) (number_is h) (edit_first (with_degrees_lem (byte_table_lem n t) d) u v);
+      first = subst⁻¹ (FirstFault _) (number_is h) (edit_first (with_degrees_lem (packed_table_lem n t) d) u v);
       refused = told-refused h;
       accepted = λ z. subst⁻¹ (Edited b n u v t d) (told_is h) (edited b n t d u v (sym h.refusal ∙ z));
       zero_or_one = let e = h.unchanged in let s = bit-small (edit_call b n t d u v).unchanged in omega arith;
@@ -111,7 +111,7 @@ undo_demand e f h k z s other handed pair =
 
 -- ---- any list of edits
 
--- Table and list that pass 1 to 5 and 42 pass them after any list of edits.
+-- Table and list that pass 1, 2, 45, 4, 5 and 42 pass them after any list of edits.
 pub edits_chain_demand : ChainDemand
 edits_chain_demand [] h n t d e g = e
 edits_chain_demand (m ∷ ms) h n t d e g = edits_chain_demand ms h.1 n m.table_left_lem m.degrees-left (one m.answer.refusal refl) g.1
@@ -135,7 +135,7 @@ restored_demand es h n t d e g same = lent-once n (table_after t es) (degrees_af
 pub listed_demand : ListedDemand
 listed_demand n t d k d₁ h =
     record {
-      first = subst⁻¹ (FirstFault _) number (list-first (byte_table_lem n t) d);
+      first = subst⁻¹ (FirstFault _) number (list-first (packed_table_lem n t) d);
       refused = λ x. h.degrees ∙ ap (λ r. r.degrees) (list_left (lent_table n t) d x (sym number));
       accepted = λ z.
           let e = list_done (lent_table n t) d (sym number ∙ z) in (

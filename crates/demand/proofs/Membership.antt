@@ -10,7 +10,7 @@ use Rattle.model.specs.Listing.{rules}
 use Rattle.model.specs.Calls.{by_bytes, refuse_query, answer_to}
 use Rattle.model.specs.Groups.{settings, qualifies}
 use Rattle.model.specs.Text.{TextReply}
-use Rattle.theory.proofs.Calls.TableFaults.{byte_table_lem}
+use Rattle.theory.proofs.Calls.PackedFaults.{packed_table_lem}
 use Rattle.theory.proofs.Calls.DegreeFaults.{with_degrees_lem}
 use Rattle.theory.proofs.Calls.Faults.{query-accepted_iff, query-yes_iff}
 use Rattle.theory.proofs.Walk.Listing.{lists}
@@ -32,7 +32,7 @@ unfolding answer_to
 query_demand n t degrees set work left notion kind c a h e =
     let s = settings notion kind c in
     let accepted = sym (reply_refused (refuse_query (lent n t degrees) s set (length work)) (qualifies (graph_of n t) s (by_bytes set))) ∙ sym h.refused ∙ e in
-    let form = with_degrees_lem (byte_table_lem n t) degrees in
+    let form = with_degrees_lem (packed_table_lem n t) degrees in
     let says = query-yes_iff form s set (length work) ((query-accepted_iff form s set (length work)).0 accepted) in
     (λ y. says.0 (bit_true _ (sym h.yes ∙ y)), λ q. h.yes ∙ ap bit (says.1 q))
 

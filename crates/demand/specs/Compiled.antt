@@ -1,4 +1,4 @@
--- What demands 2 and 3 and the requests C-11, C-12 and C-14 say of a compiled function, over its contract as the checker itself reads it from the function's source
+-- What demands 2 and 3 and the requests C-11, C-12, C-14 and C-15 say of a compiled function, over its contract as the checker itself reads it from the function's source
 -- and proves it: `Post` is that contract, of the arguments, the answer and the memory at exit.
 -- Assumes nothing.
 use Rattle.std.specs.Prelude.{ℕ, ◌*◌, ◌≤◌, ◌≡◌, Bool, true, false, ◌↔◌, ◌⊎◌, List, [], ◌∷◌, map, length}
@@ -15,16 +15,19 @@ use Rattle.model.specs.Calls.{by_bytes}
 use Rattle.model.specs.Demand.{joined_output, SomeFinished}
 use Rattle.model.specs.Records.{RecordsMade, Wants}
 use Rattle.model.specs.Repeats.{DifferInRepeats}
+use Rattle.model.specs.BothTables.{SameGraph}
 use Rattle.graph.specs.Table.{graph_of}
 use Rattle.page.proofs.page.Kinds as page-kinds
 use Rattle.query.proofs.set_query.Kinds as query-kinds
 use Rattle.dimacs.proofs.read_text.Kinds as reader-kinds
+use Rattle.pack.proofs.packing.pack.Kinds as pack-kinds
 use Rattle.edits.proofs.join.Kinds as edit-kinds
 use Rattle.edits.proofs.list_degrees.Kinds as list-kinds
 use Rattle.demand.specs.Demand.{MadeCall, reported, PageDemand}
 use Rattle.demand.specs.Membership.{TextDemand}
 use Rattle.demand.specs.Repeats.{Never38, ComparesLines, SameTable}
 use Rattle.demand.specs.Edits.{EditMade, MadeEdit, Undoes, PassesAfter, RestoredAfter, ListMade}
+use Rattle.demand.specs.Packing.{PackMade, PagesAlike, QueryAlike, EditAlike, ListAlike}
 
 -- A call of a compiled function: any arguments, answer and memory at exit that its contract allows.
 pub record Compiled (m : ℕ) (ps : List (ParamKind m)) (r : ResultKind m) (Post : Out m ps r) : Type 0 where
@@ -202,3 +205,44 @@ ListedHolds Post =
     (k : Compiled 2 list-kinds.ps list-kinds.r Post)
     → let a = k.arguments in
     ListMade a.1.1.0 a.0.now a.1.0.now k.answer k.at_exit.1.0.now
+
+-- ---- packed tables
+
+-- C-15 of a compiled call that packs a byte table, with the parameters bytes, packed, n
+abbrev pub PackHolds : Out 2 pack-kinds.ps pack-kinds.r → Type 0
+PackHolds Post =
+    (k : Compiled 2 pack-kinds.ps pack-kinds.r Post)
+    → let a = k.arguments in
+    PackMade a.1.1.0 a.0.now a.1.0.now k.answer k.at_exit.1.0.now
+
+-- C-15 of a compiled page call: it answers on a packed table as on the byte table of the same graph;
+abbrev pub PagesAlikeHold : Out 5 page-kinds.ps page-kinds.r → Type 0
+PagesAlikeHold Post = (k : CompiledPage Post) → PagesAlike (call_of k)
+
+-- so does a compiled set query,
+abbrev pub QueriesAlikeHold : Out 4 query-kinds.ps query-kinds.r → Type 0
+QueriesAlikeHold Post =
+    (k : Compiled 4 query-kinds.ps query-kinds.r Post) (t : List ℕ)
+    → let table = k.arguments.0.now in
+    let degrees = k.arguments.1.0.now in
+    let set = k.arguments.1.1.0.now in
+    let work = k.arguments.1.1.1.0.now in
+    let n = k.arguments.1.1.1.1.0 in
+    let notion = k.arguments.1.1.1.1.1.0 in
+    let kind = k.arguments.1.1.1.1.1.1.0 in
+    let c = k.arguments.1.1.1.1.1.1.1.0 in
+    SameGraph n t table → QueryAlike n t degrees set notion kind c (length work) k.answer
+
+-- a compiled edit,
+abbrev pub EditsAlikeHold : Bool → Out 2 edit-kinds.ps edit-kinds.r → Type 0
+EditsAlikeHold b Post =
+    (k : Compiled 2 edit-kinds.ps edit-kinds.r Post) (t : List ℕ)
+    → let e = made b k in
+    SameGraph e.size t e.table → EditAlike e t
+
+-- and a compiled call that lists the degrees
+abbrev pub ListsAlikeHold : Out 2 list-kinds.ps list-kinds.r → Type 0
+ListsAlikeHold Post =
+    (k : Compiled 2 list-kinds.ps list-kinds.r Post) (t : List ℕ)
+    → let a = k.arguments in
+    SameGraph a.1.1.0 t a.0.now → ListAlike a.1.1.0 t a.1.0.now k.answer k.at_exit.1.0.now

@@ -3,7 +3,7 @@
 use Rattle.std.specs.Prelude.{ℕ, ◌≤◌, ◌≡◌, Bool, not, ◌≢◌, ◌⊎◌, List, [], ◌∷◌, ◌++◌, eqb}
 use Rattle.model.specs.Graph.{degree_list}
 use Rattle.model.specs.Fault.{FirstFault}
-use Rattle.model.specs.Faults.{table_faults, degrees_faults}
+use Rattle.model.specs.Faults.{packed_faults, degrees_faults}
 use Rattle.model.specs.Edits.{EditReply, edit_faults, Edited, list_faults}
 use Rattle.graph.specs.Table.{lent, graph_of}
 use Rattle.edits.specs.declared.EditAnswer.{EditAnswer}
@@ -17,14 +17,15 @@ told a t₁ d₁ = record { refused = a.refusal; unchanged = eqb a.unchanged 1; 
 
 -- of an edit that joins where b says so, and else parts; handed the table t and the list d, it left them as t₁ and d₁
 pub record EditMade (b : Bool) (n : ℕ) (t d : List ℕ) (u v : ℕ) (a : EditAnswer) (t₁ d₁ : List ℕ) : Type 0 where
-  -- each fault meets its number, in the order 1 to 5, 42, 43, 44, and an edit without a named fault is accepted
-  pub first : FirstFault (edit_faults (table_faults n t ++ degrees_faults (graph_of n t) d) n u v) a.refusal
+  -- each fault meets its number, in the order 1, 2, 45, 4, 5, 42, 43, 44, and an edit without a named fault is accepted
+  pub first : FirstFault (edit_faults (packed_faults n t ++ degrees_faults (graph_of n t) d) n u v) a.refusal
   -- "a refused call .. has 0 in its other numbers and changes no lent memory"
   pub refused : a.refusal ≢ 0 → (a.unchanged ≡ 0) × (t₁ ≡ t) × (d₁ ≡ d)
-  -- "the pair is then joined, or parted, its two degrees follow, and no other entry is touched"; the answer says "unchanged" exactly where it is so
+  -- "the pair is then joined, or parted, its two degrees follow, and no other entry is touched", no bit but the pair's two; the answer says
+  -- "unchanged" exactly where it is so
   pub accepted : a.refusal ≡ 0 → Edited b n u v t d (told a t₁ d₁)
   pub zero_or_one : a.unchanged ≤ 1
-  -- the same table and list pass 1 to 5 and 42 again
+  -- the same table and list pass 1, 2, 45, 4, 5 and 42 again
   pub passes_again : a.refusal ≡ 0 → (lent n t₁ d₁).fault ≡ 0
 
 -- that of every call of an edit
@@ -92,7 +93,7 @@ abbrev pub degrees_after : List ℕ → List MadeEdit → List ℕ
 degrees_after d [] = d
 degrees_after d (e ∷ es) = degrees_after e.degrees-left es
 
--- where table and list pass 1 to 5 and 42 before such edits, accepted and refused ones in any order, they pass after them
+-- where table and list pass 1, 2, 45, 4, 5 and 42 before such edits, accepted and refused ones in any order, they pass after them
 abbrev pub PassesAfter : List MadeEdit → Type 0
 PassesAfter es = (n : ℕ) (t d : List ℕ) → (lent n t d).fault ≡ 0 → HandedOn n t d es → (lent n (table_after t es) (degrees_after d es)).fault ≡ 0
 
@@ -114,8 +115,8 @@ RestoredDemand = (es : List MadeEdit) → AllReplied es → RestoredAfter es
 
 -- of a call that was handed the list d, answered k and left the list as d₁
 pub record ListMade (n : ℕ) (t d : List ℕ) (k : ℕ) (d₁ : List ℕ) : Type 0 where
-  -- each fault meets its number, in the order 1 to 5, 42, and a call without a named fault is accepted
-  pub first : FirstFault (list_faults (table_faults n t) n d) k
+  -- each fault meets its number, in the order 1, 2, 45, 4, 5, 42, and a call without a named fault is accepted
+  pub first : FirstFault (list_faults (packed_faults n t) n d) k
   pub refused : k ≢ 0 → d₁ ≡ d
   -- accepted, the list is that of the graph's degrees, and so passes 42
   pub accepted : k ≡ 0 → (d₁ ≡ degree_list (graph_of n t)) × ((lent n t d₁).fault ≡ 0)

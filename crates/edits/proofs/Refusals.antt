@@ -1,14 +1,15 @@
 -- The refusals of an edit in their order, and what passes them.
 -- Assumes nothing.
-use Prim.Native.Nat.{ℕ, ◌≤◌, ◌<◌}
+use Prim.Native.Nat.{ℕ, ◌*◌, ◌≤◌, ◌<◌}
 use mathlib.Core.Path.{◌≡◌, sym, ap, ◌∙◌, subst}
 use mathlib.Core.Bool.{Bool, not}
 use mathlib.Core.List.{List}
 use mathlib.Core.Logic.{◌≢◌, ◌⊎◌}
 use native.Mathlib.Omega.{arith}
+use lib.ListN.{length}
 use lib.Dec.{eqb}
 use borrow.Author.Tests.{eq-eqb}
-use Rattle.model.specs.Graph.{LentGraph}
+use Rattle.model.specs.Graph.{LentGraph, row_length}
 use Rattle.model.specs.Calls.{refuse}
 use Rattle.model.specs.Edits.{refuse_pair, refuse_edit, recount}
 use Rattle.theory.proofs.Basics.Tests.{test_and, test_lt}
@@ -16,7 +17,7 @@ use Rattle.theory.proofs.Basics.Refusals.{refuse_on, else_none, else_found}
 use Rattle.theory.proofs.Graph.Degrees.{degree_le, degree-some}
 use Rattle.theory.proofs.Graph.Pairs.{recount-length, recount-other}
 use Rattle.theory.proofs.Calls.Edits.{outside_test, edit_passes_iff}
-use Rattle.graph.specs.Table.{TableFits, lent, graph_of}
+use Rattle.graph.specs.Table.{lent, graph_of}
 use Rattle.graph.proofs.Faults.{LentPassed, lent-passed}
 use Rattle.edits.specs.Edits.{CanMove}
 
@@ -67,9 +68,9 @@ module _ {n : ℕ} {t d : List ℕ} {u v : ℕ} where
       let p = (edit_passes_iff (lent n t d) u v).0 e in
       record { passes = e; passed = lent-passed n t d p.no_fault; from-below = p.from-below; to_below = p.to_below; differ = p.differ }
 
-  -- so that both its bytes are in the table
-  pub can_write : CanEdit n t d u v → TableFits n t × (u < n) × (v < n)
-  can_write c = (c.passed.fits, c.from-below, c.to_below)
+  -- so that both its bits are in the table
+  pub can_write : CanEdit n t d u v → (n ≤ 1024) × (length t ≡ n * row_length n) × (u < n) × (v < n)
+  can_write c = (c.passed.fits.small, c.passed.fits.whole, c.from-below, c.to_below)
 
   module _ (c : CanEdit n t d u v) (b : Bool) (was : (graph_of n t).joined u v ≡ not b) where
     -- the degree of an end of a pair that is not so yet

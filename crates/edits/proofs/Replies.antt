@@ -12,7 +12,7 @@ use native.Mathlib.Omega.{arith}
 use lib.ListN.{length}
 use borrow.Author.Tests.{ne_eqb}
 use Rattle.model.specs.Below.{bit}
-use Rattle.model.specs.Graph.{with_pair, degree_list}
+use Rattle.model.specs.Graph.{with_bits, degree_list}
 use Rattle.model.specs.Calls.{refuse}
 use Rattle.model.specs.Edits.{refuse_edit, recount, EditReply, edit_call, refuse_list, DegreesReply, degrees_call}
 use Rattle.theory.proofs.Basics.Refusals.{else_none, else_found}
@@ -41,18 +41,18 @@ module _ {b : Bool} {n : ℕ} {t d : List ℕ} {u v : ℕ} where
       → EditReplies b n t d u v (answer_of q) t d
   replies-refused q r h e =
       let p = err_from_is_err_and q h in
-      rw (p.1, p.2) (replies_as (edit_left (lent n t d) u v b t d (with_pair (bit b) n u v t) (number-some r) (sym e)))
+      rw (p.1, p.2) (replies_as (edit_left (lent n t d) u v b t d (with_bits b n u v t) (number-some r) (sym e)))
 
   module _ (passes : refuse_edit (lent n t d) u v ≡ 0) where
     -- the pair is so already, and nothing is written
     pub replies-same : beq ((graph_of n t).joined u v) b ≡ true → EditReplies b n t d u v (record { refusal = 0; unchanged = 1 }) t d
-    replies-same s = replies_as (edit_same (lent n t d) u v b t d (with_pair (bit b) n u v t) passes s)
+    replies-same s = replies_as (edit_same (lent n t d) u v b t d (with_bits b n u v t) passes s)
 
-    -- both bytes of the pair are written, and its two degrees follow
+    -- both bits of the pair are written, and its two degrees follow
     pub replies-done : beq ((graph_of n t).joined u v) b ≡ false → {t₁ d₁ d₂ : List ℕ}
-        → t₁ ≡ with_pair (bit b) n u v t → d₁ ≡ recount b v d → d₂ ≡ recount b u d₁ → EditReplies b n t d u v (record { refusal = 0; unchanged = 0 }) t₁ d₂
+        → t₁ ≡ with_bits b n u v t → d₁ ≡ recount b v d → d₂ ≡ recount b u d₁ → EditReplies b n t d u v (record { refusal = 0; unchanged = 0 }) t₁ d₂
     replies-done s p q r =
-        let a = replies_as (edit_done (lent n t d) u v b t d (with_pair (bit b) n u v t) passes s) in
+        let a = replies_as (edit_done (lent n t d) u v b t d (with_bits b n u v t) passes s) in
         record { refusal = a.refusal; unchanged = a.unchanged; table = p ∙ a.table; degrees = r ∙ ap (recount b u) q ∙ a.degrees }
 
 -- ---- the list of degrees

@@ -6,6 +6,7 @@ ghost use Rattle.model.specs.Groups.{settings};
 ghost use Rattle.graph.specs.Table.{lent};
 ghost use Rattle.dimacs.specs.Reply.{ReadsAs};
 ghost use Rattle.edits.specs.Edits.{EditReplies, ListReplies};
+ghost use Rattle.pack.specs.Packing.{PackReplies};
 ghost use Rattle.page.specs.Call.{PageCalled};
 ghost use Rattle.query.specs.Query.{Answers};
 
@@ -16,7 +17,7 @@ use rounds::PageAnswer;
 
 // The page call.
 pub fn isolated_page(
-    table: &[u8],
+    table: &[u64],
     degrees: &[u16],
     position: &mut [u8],
     output: &mut [u16],
@@ -37,7 +38,7 @@ pub fn isolated_page(
 
 // The set query.
 pub fn isolated_set_query(
-    table: &[u8],
+    table: &[u64],
     degrees: &[u16],
     set: &[u8],
     work: &mut [u16],
@@ -60,7 +61,7 @@ pub fn isolated_read_text(text: &[u8], table: &mut [u8]) -> TextAnswer
 
 // The edit that joins a pair.
 pub fn isolated_join(
-    table: &mut [u8],
+    table: &mut [u64],
     degrees: &mut [u16],
     n: usize,
     u: usize,
@@ -73,7 +74,7 @@ pub fn isolated_join(
 
 // The edit that parts a pair.
 pub fn isolated_part(
-    table: &mut [u8],
+    table: &mut [u64],
     degrees: &mut [u16],
     n: usize,
     u: usize,
@@ -85,8 +86,15 @@ pub fn isolated_part(
 }
 
 // The list of the degrees.
-pub fn isolated_degrees(table: &[u8], degrees: &mut [u16], n: usize) -> u32
+pub fn isolated_degrees(table: &[u64], degrees: &mut [u16], n: usize) -> u32
     ensures { ListReplies n table.now degrees.old result degrees.new }
 {
     edits::list_degrees(table, degrees, n)
+}
+
+// The packed table of a byte table.
+pub fn isolated_pack(bytes: &[u8], packed: &mut [u64], n: usize) -> u32
+    ensures { PackReplies n bytes.now packed.old result packed.new }
+{
+    pack::pack(bytes, packed, n)
 }

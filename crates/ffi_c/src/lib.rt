@@ -7,6 +7,7 @@ ghost use Rattle.model.specs.Groups.{settings};
 ghost use Rattle.graph.specs.Table.{lent};
 ghost use Rattle.dimacs.specs.Reply.{ReadsAs};
 ghost use Rattle.edits.specs.Edits.{EditReplies, ListReplies};
+ghost use Rattle.pack.specs.Packing.{PackReplies};
 ghost use Rattle.page.specs.Call.{PageCalled};
 ghost use Rattle.query.specs.Query.{Answers};
 
@@ -18,7 +19,7 @@ use rounds::PageAnswer;
 // The page call.
 #[unsafe(no_mangle)]
 pub extern "C" fn isolated_page(
-    table: &[u8],
+    table: &[u64],
     degrees: &[u16],
     position: &mut [u8],
     output: &mut [u16],
@@ -40,7 +41,7 @@ pub extern "C" fn isolated_page(
 // The set query.
 #[unsafe(no_mangle)]
 pub extern "C" fn isolated_set_query(
-    table: &[u8],
+    table: &[u64],
     degrees: &[u16],
     set: &[u8],
     work: &mut [u16],
@@ -65,7 +66,7 @@ pub extern "C" fn isolated_read_text(text: &[u8], table: &mut [u8]) -> TextAnswe
 // The edit that joins a pair.
 #[unsafe(no_mangle)]
 pub extern "C" fn isolated_join(
-    table: &mut [u8],
+    table: &mut [u64],
     degrees: &mut [u16],
     n: usize,
     u: usize,
@@ -79,7 +80,7 @@ pub extern "C" fn isolated_join(
 // The edit that parts a pair.
 #[unsafe(no_mangle)]
 pub extern "C" fn isolated_part(
-    table: &mut [u8],
+    table: &mut [u64],
     degrees: &mut [u16],
     n: usize,
     u: usize,
@@ -92,8 +93,16 @@ pub extern "C" fn isolated_part(
 
 // The list of the degrees.
 #[unsafe(no_mangle)]
-pub extern "C" fn isolated_degrees(table: &[u8], degrees: &mut [u16], n: usize) -> u32
+pub extern "C" fn isolated_degrees(table: &[u64], degrees: &mut [u16], n: usize) -> u32
     ensures { ListReplies n table.now degrees.old result degrees.new }
 {
     ffi::isolated_degrees(table, degrees, n)
+}
+
+// The packed table of a byte table.
+#[unsafe(no_mangle)]
+pub extern "C" fn isolated_pack(bytes: &[u8], packed: &mut [u64], n: usize) -> u32
+    ensures { PackReplies n bytes.now packed.old result packed.new }
+{
+    ffi::isolated_pack(bytes, packed, n)
 }

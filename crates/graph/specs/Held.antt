@@ -8,7 +8,7 @@ use Rattle.graph.specs.declared.table.Table.{Table}
 
 -- the graph of the table
 abbrev pub graph_in : Table → Graph
-graph_in t = graph_of t.n t.bytes.now
+graph_in t = graph_of t.n t.numbers.now
 
 -- the list has an entry for each vertex, its degree
 pub record Lists (t : Table) (d : List ℕ) : Type 0 where

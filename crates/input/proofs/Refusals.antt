@@ -1,4 +1,4 @@
--- The refusals 1 to 5, 42 and 6 to 10 in their order, and what passes them.
+-- The refusals 1, 2, 45, 4, 5, 42 and 6 to 10 in their order, and what passes them.
 -- Assumes nothing.
 use Rattle.std.specs.Prelude.{ℕ, ◌*◌, ◌≤◌, ◌<◌, ◌≡◌, ◌≢◌, List}
 use Rattle.std.proofs.Common.{sym, ◌∙◌}
@@ -56,7 +56,7 @@ module _ (L : LentGraph) (s : Settings) (bytes work : ℕ) where
 
 -- ---- what passes them
 
--- what a call has that passes 1 to 5, 42 and 6 to 10
+-- what a call has that passes 1, 2, 45, 4, 5, 42 and 6 to 10
 pub record InputPassed (n : ℕ) (t d : List ℕ) (q : code.Settings) (bytes work : ℕ) : Type 0 where
   pub graph : LentPassed n t d
   pub factor : FactorFits q
@@ -86,7 +86,7 @@ pub input_held : {n : ℕ} {t d : List ℕ} (s : Settings) {bytes work : ℕ} (l
 input_held {n} {t} {d} s {bytes} {work} l h e =
     let a = (input_accepted_iff (lent n t d) s bytes work).0 e in
     record {
-      simple = rw (h.table.vertices, h.table.bytes) (lent-passed n t d a.no_fault).simple;
+      simple = rw (h.table.vertices, h.table.numbers) (lent-passed n t d a.no_fault).simple;
       long = rw (h.table.vertices) a.long;
       enough = rw (h.table.vertices) a.enough;
     }

@@ -1,4 +1,4 @@
-// The refusals that page and set query have alike: 1 to 5, 42 and 6 to 10. Document 01, "Turned back by the input", and document 02, C-12.
+// The refusals that page and set query have alike: 1, 2, 45, 4, 5, 42 and 6 to 10. Document 01, "Turned back by the input", and document 02, C-12 and C-15.
 #![tactic(auto)]
 
 ghost use Rattle.std.specs.Prelude.{◌≡◌, IfOk};
@@ -13,10 +13,10 @@ use isolation::{Criterion, Settings};
 use refusal::Refusal;
 
 // The graph that a table, a list of degrees and n hold and the criterion of the settings, for a call with a position or set of `bytes` bytes and a work slice
-// of `work` entries, or the refusal: 1 to 5 of the table, 42 of the list, 6 to 8 of the settings, 9 and 10 of the two lengths, in this order. Reads the table
+// of `work` entries, or the refusal: 1, 2, 45, 4 and 5 of the table, 42 of the list, 6 to 8 of the settings, 9 and 10 of the two lengths, in this order. Reads the table
 // and the list.
 pub fn lent_input<'a>(
-    table: &'a [u8],
+    table: &'a [u64],
     degrees: &'a [u16],
     n: usize,
     s: Settings,

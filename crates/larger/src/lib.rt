@@ -56,6 +56,8 @@ fn mark_first(
     requires beside { length candidates.now ≡ length marks.old }
     ensures { Dropped (graph_in table.now) candidates.now all_in marks.new v depth result }
 {
+    // A copy made here, so that the loop below keeps the place of v's row in a register.
+    let table = *table;
     let depth = depth as u16;
     let mut out = 0;
     for (e, first_mark) in marks.iter_mut().enumerate() {
@@ -83,6 +85,8 @@ fn drop_out(
     requires beside { length candidates.now ≡ length marks.old }
     ensures { Dropped (graph_in table.now) candidates.now (marks_of marks.old) marks.new v depth result }
 {
+    // A copy made here, so that the loop below keeps the place of v's row in a register.
+    let table = *table;
     let depth = depth as u16;
     let mut out = 0;
     for (e, mark) in marks.iter_mut().enumerate() {

@@ -6,7 +6,9 @@ use mathlib.Core.Logic.{◌≢◌, inl, inr}
 use mathlib.Core.List.{List, [], ◌∷◌, ◌++◌, append_assoc}
 use native.Mathlib.Omega.{arith}
 use lib.ListN.{length}
+use Rattle.model.specs.Graph.{Graph, by_table}
 use Rattle.model.specs.Groups.{Settings}
+use Rattle.model.specs.Meaning.{Simple}
 use Rattle.model.specs.Walk.{Position, Rules, fresh, finished, page, full_sets, stopped_finished}
 use Rattle.model.specs.Listing.{rules, record_length}
 use Rattle.model.specs.Calls.{refuse_page, PageReply, reply_to}
@@ -22,8 +24,8 @@ use Rattle.theory.proofs.Walk.Ends.{weight, stretch_falls}
 use Rattle.theory.proofs.Calls.Pages.{replied, page_does, went_finished, chain_demand, call_progress}
 use Rattle.theory.proofs.Calls.Next.{demand_accepted}
 use Rattle.theory.proofs.Program.Printed.{held-add}
-use Rattle.theory.proofs.Program.Program.{all_groups_lem, pages_begin, pages-listed, pages_print}
-use Rattle.graph.specs.Table.{lent_table, graph_of}
+use Rattle.theory.proofs.Program.Program.{all_groups_lem, pages_begin, pages-listed, pages-length, pages_print}
+use Rattle.graph.specs.Held.{graph_in}
 use Rattle.graph.specs.declared.lent.Lent.{Lent}
 use Rattle.graph.proofs.Faults.{lent-simple, lent_table_lem}
 use Rattle.std.specs.Prelude.{Result, Ok, Err}
@@ -76,60 +78,52 @@ held_more a b e f = ap (λ (x : ℕ). held (x + b)) e ∙ held-add a b ∙ ap (�
 -- ---- the pages of one graph
 
 -- before the first page
-pub paged_none : {n : ℕ} {t : List ℕ} {s : Settings} {p : Position} → p ≡ fresh n → Paged n t s p (record { groups = 0; steps = 0 })
+pub paged_none : (G : Graph) (s : Settings) {p : Position} → p ≡ fresh G.size → Paged G s p (record { groups = 0; steps = 0 })
 unfolding left_at all_groups all_steps
-paged_none e = record { replies = []; chain = tt; left = sym e; totals = record { groups = refl; steps = refl } }
+paged_none G s e = record { replies = []; chain = tt; left = sym e; totals = record { groups = refl; steps = refl } }
 
 -- what the pages so far come to where the list is cut there
-paged_cut : {n : ℕ} {t : List ℕ} {s : Settings} → (lent_table n t).fault ≡ 0 → {p : Position} {l : Totals} → Paged n t s p l → Ran n t s (Err l)
-paged_cut {n} {t} {s} valid paged =
+paged_cut : {G : Graph} {s : Settings} → Simple G → {p : Position} {l : Totals} → Paged G s p l → Ran G s (Err l)
+paged_cut {G} {s} simple paged =
     let rs = paged.replies in
-    record { replies = rs; chain = paged.chain; totals = paged.totals; begins = pages_begin s n t valid rs paged.chain; whole-list = tt }
+    record { replies = rs; chain = paged.chain; totals = paged.totals; begins = pages_begin G s simple rs paged.chain; whole-list = tt }
 
 -- and where one of them has said Finished
-paged_whole : {n : ℕ} {t : List ℕ} {s : Settings} → (lent_table n t).fault ≡ 0 → {p : Position} {l : Totals} (paged : Paged n t s p l)
-    → SomeFinished paged.replies → Ran n t s (Ok l)
-paged_whole {n} {t} {s} valid paged f =
+paged_whole : {G : Graph} {s : Settings} → Simple G → {p : Position} {l : Totals} (paged : Paged G s p l) → SomeFinished paged.replies → Ran G s (Ok l)
+paged_whole {G} {s} simple paged f =
     let rs = paged.replies in
     let c = paged.chain in
     record {
       replies = rs;
       chain = c;
       totals = paged.totals;
-      begins = pages_begin s n t valid rs c;
+      begins = pages_begin G s simple rs c;
       whole-list =
           record {
             ended = f;
-            pages = pages-listed s n t valid rs c f;
-            full-groups = paged.totals.groups ∙ ap (λ (a : ℕ). held a) (all_groups_lem s n t valid rs c f);
-            full-steps = (
-              all_steps rs,
-              ((chain_demand (rules (graph_of n t) s) n (lawful (graph_of n t) (lent-simple n t valid).loopless s) rs c).whole f).1,
-              paged.totals.steps,
-            );
+            pages = pages-listed G s simple rs c f;
+            full-groups = paged.totals.groups ∙ ap (λ (a : ℕ). held a) (all_groups_lem G s simple rs c f);
+            full-steps = (all_steps rs, pages-length G s simple rs c f, paged.totals.steps);
           };
     }
 
 module _ {g : Lent} {s : Settings} {p₀ out₀ work₀ bytes₀ : List ℕ} (begins : ListBegins g s p₀ out₀ work₀ bytes₀) {p : Position} {l : Totals}
-    (paged : Paged g.table.n g.table.bytes.now s p l) (out : List ℕ) (work : ℕ) (room : 8 * g.table.n ≤ work) where
+    (paged : Paged (graph_in g.table) s p l) (out : List ℕ) (work : ℕ) (room : 8 * g.table.n ≤ work) where
   abbrev n : ℕ
   n = g.table.n
 
-  abbrev t : List ℕ
-  t = g.table.bytes.now
-
-  -- the table by itself has no fault
-  sound : (lent_table n t).fault ≡ 0
-  sound = lent_table_lem n t g.degrees.now begins.no_fault
+  -- the graph is one of document 01
+  sound : Simple (graph_in g.table)
+  sound = lent-simple n g.table.numbers.now (lent_table_lem n g.table.numbers.now g.degrees.now begins.no_fault)
 
   abbrev R : Rules
-  R = rules (graph_of n t) s
+  R = rules (graph_in g.table) s
 
   abbrev reply : PageReply
   reply = turn_reply g s p out work
 
   law : Lawful R n
-  law = lawful (graph_of n t) (lent-simple n t sound).loopless s
+  law = lawful (graph_in g.table) sound.loopless s
 
   demand : Demand3 R n paged.replies
   demand = chain_demand R n law paged.replies paged.chain
@@ -138,14 +132,14 @@ module _ {g : Lent} {s : Settings} {p₀ out₀ work₀ bytes₀ : List ℕ} (be
   accepted : reply.refused ≡ 0
   accepted =
       subst (λ (q : Position). (turn_reply g s q out work).refused ≡ 0) paged.left
-      (demand_accepted (turn_call g s out work) (record { no_fault = begins.no_fault; simple = lent-simple n t sound; proper = begins.settings; enough = room }) paged.replies demand)
+      (demand_accepted (turn_call g s out work) (record { no_fault = begins.no_fault; simple = sound; proper = begins.settings; enough = room }) paged.replies demand)
 
   answered : Replied R p reply
   unfolding reply_to
   answered = replied R (refuse_page (lent_of g) s p work) (page R 4294967295 (length out) p) p out (λ z. page_does R 4294967295 (length out) p)
 
   module _ {m : Totals} (gs : m.groups ≡ held (l.groups + reply.groups)) (ks : m.steps ≡ held (l.steps + reply.steps)) where
-    paged_more : Paged n t s reply.position m
+    paged_more : Paged (graph_in g.table) s reply.position m
     paged_more =
         record {
           replies = paged.replies ++ (reply ∷ []);
@@ -179,22 +173,22 @@ module _ {g : Lent} {s : Settings} {p₀ out₀ work₀ bytes₀ : List ℕ} (be
 -- ---- the same by what a turn leaves
 
 module _ {g : Lent} {s : Settings} {p₀ out₀ work₀ bytes₀ : List ℕ} (begins : ListBegins g s p₀ out₀ work₀ bytes₀) {p : Position} {l : Totals}
-    (paged : Paged g.table.n g.table.bytes.now s p l) (out : List ℕ) {work : ℕ} (same : work ≡ length work₀) {left out' : List ℕ}
+    (paged : Paged (graph_in g.table) s p l) (out : List ℕ) {work : ℕ} (same : work ≡ length work₀) {left out' : List ℕ}
     {page : PageAnswer} (replies : PageReplies page left out' (turn_reply g s p out work)) where
   roomy : 8 * g.table.n ≤ work
   roomy = rw same begins.room
 
   module _ {m : Totals} (gs : m.groups ≡ held (l.groups + page.groups)) (ks : m.steps ≡ held (l.steps + page.steps)) where
-    more : Paged g.table.n g.table.bytes.now s (turn_reply g s p out work).position m
+    more : Paged (graph_in g.table) s (turn_reply g s p out work).position m
     more = paged_more begins paged out work roomy (rw replies.groups at gs) (rw replies.steps at ks)
 
-    pub turned_paged : Paged g.table.n g.table.bytes.now s left m
+    pub turned_paged : Paged (graph_in g.table) s left m
     turned_paged = rw replies.position more
 
-    pub turned_cut : Ran g.table.n g.table.bytes.now s (Err m)
+    pub turned_cut : Ran (graph_in g.table) s (Err m)
     turned_cut = paged_cut (sound begins paged out work roomy) more
 
-    pub turned_whole : page.stop ≡ stopped_finished → Ran g.table.n g.table.bytes.now s (Ok m)
+    pub turned_whole : page.stop ≡ stopped_finished → Ran (graph_in g.table) s (Ok m)
     unfolding more
     turned_whole e = paged_whole (sound begins paged out work roomy) more (paged_ended begins paged out work roomy _ _ (sym replies.stop ∙ e))
 
@@ -203,25 +197,25 @@ module _ {g : Lent} {s : Settings} {p₀ out₀ work₀ bytes₀ : List ℕ} (be
       rw replies.position
       (paged_falls begins paged out work roomy (λ z. e (replies.stop ∙ z)) (rw same_out begins.output))
 
-lines_begin : (s : Settings) (n : ℕ) (t : List ℕ) (xs out : List ℕ) → Begins xs (group_lines (graph_of n t) (full_sets (rules (graph_of n t) s) n))
+lines_begin : (s : Settings) (n : ℕ) (t : List ℕ) (xs out : List ℕ) → Begins xs (group_lines (by_table n t) (full_sets (rules (by_table n t) s) n))
     → PrintsAt (listing s n t) out → Begins xs out
 unfolding PrintsAt
 lines_begin s n t xs out b p = (
-  b.0 ++ end_line (held (length (full_sets (rules (graph_of n t) s) n))) (held p.0),
+  b.0 ++ end_line (held (length (full_sets (rules (by_table n t) s) n))) (held p.0),
   p.2
-      ∙ ap (λ (l : List ℕ). l ++ end_line (held (length (full_sets (rules (graph_of n t) s) n))) (held p.0)) b.1
-      ∙ append_assoc xs b.0 (end_line (held (length (full_sets (rules (graph_of n t) s) n))) (held p.0)),
+      ∙ ap (λ (l : List ℕ). l ++ end_line (held (length (full_sets (rules (by_table n t) s) n))) (held p.0)) b.1
+      ∙ append_assoc xs b.0 (end_line (held (length (full_sets (rules (by_table n t) s) n))) (held p.0)),
 )
 
 -- What the listing hands to the writes is the beginning of what the program prints.
 pub ran_begins : (words : List (List ℕ)) (text : List ℕ) (s : Settings) (n : ℕ) (t : List ℕ) → program_verdict words text ≡ listing s n t
-    → {r : Result Totals Totals} (ran : Ran n t s r) (out : List ℕ) → Prints words text out → Begins (printed_pages ran.replies) out
+    → {r : Result Totals Totals} (ran : Ran (by_table n t) s r) (out : List ℕ) → Prints words text out → Begins (printed_pages ran.replies) out
 ran_begins words text s n t e ran out p =
     lines_begin s n t (printed_pages ran.replies) out ran.begins (subst (λ (x : Verdict). PrintsAt x out) e p)
 
 -- Where the list is whole, it and its end line are what the program prints.
 pub ran_prints : (words : List (List ℕ)) (text : List ℕ) (s : Settings) (n : ℕ) (t : List ℕ) → program_verdict words text ≡ listing s n t
-    → {l : Totals} (ran : Ran n t s (Ok l)) → Prints words text (printed_pages ran.replies ++ end_line l.groups l.steps)
+    → {l : Totals} (ran : Ran (by_table n t) s (Ok l)) → Prints words text (printed_pages ran.replies ++ end_line l.groups l.steps)
 ran_prints words text s n t e {l} ran =
     subst (λ (x : List ℕ). Prints words text (printed_pages ran.replies ++ x)) (ap₂ end_line (sym ran.totals.groups) (sym ran.totals.steps))
     (pages_print words text s n t e ran.replies ran.chain ran.whole-list.ended)

@@ -5,6 +5,7 @@ pub mod totals;
 
 ghost use Rattle.std.specs.Prelude.{◌≡◌, ◌*◌, ◌≤◌, length, take};
 ghost use Rattle.theory.specs.Printed.{printed};
+ghost use Rattle.graph.specs.Held.{graph_in};
 ghost use Rattle.isolation.specs.Numbers.{settings_of};
 ghost use Rattle.rounds.specs.Answer.{PageReplies};
 ghost use Rattle.listing.specs.List.{turn_reply, ListBegins, Ran};
@@ -50,7 +51,7 @@ fn one_page(
         (turn_reply lent.now (settings_of settings) position.old output.old (length work.old)) }
 {
     page::page(
-        lent.table.bytes,
+        lent.table.numbers,
         lent.degrees,
         position,
         output,
@@ -75,7 +76,7 @@ pub fn list_all(
     bytes: &mut [u8],
 ) -> Result<Totals, Totals>
     requires { ListBegins lent.now (settings_of settings) position.old output.old work.old bytes.old }
-    ensures { Ran lent.now.table.n lent.now.table.bytes.now (settings_of settings) result }
+    ensures { Ran (graph_in lent.now.table) (settings_of settings) result }
 {
     let mut totals = Totals {
         groups: 0,

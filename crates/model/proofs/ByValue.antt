@@ -15,7 +15,7 @@ use Rattle.model.specs.Calls.{reply_of, refuse, refuse_settings, refuse_page, pa
 use Rattle.model.specs.Groups.{VertexSet, settings}
 use Rattle.model.specs.Meaning.{In}
 use Rattle.model.specs.Records.{RecordSays}
-use Rattle.model.specs.Worked.{Gives, one, unjoined, triangle, claw_table, claw, claw_degrees, claw_lent, wrote_nothing, Worked, Pinned}
+use Rattle.model.specs.Worked.{Gives, one, unjoined, triangle, claw_packed, claw, claw_degrees, claw_lent, wrote_nothing, Worked, Pinned}
 
 -- ---- the record of a leaf of the claw
 
@@ -106,6 +106,11 @@ pinned x =
       edit_refused = (refl, refl, refl);
       listed = refl;
       listed-refused = refl;
+      row_lengths = (refl, refl, refl);
+      packed_row = (refl, refl);
+      stray_bits = (refl, refl, refl, refl, refl, refl);
+      packed = refl;
+      packed-refused = refl;
     }
 
 -- what holds of both kinds, and of the three notions
@@ -192,11 +197,11 @@ k9_stops (suc (suc (suc zero))) h = (refl, refl)
 k9_stops (suc (suc (suc (suc room)))) h = absurd (omega arith)
 
 -- The reply is computed under `ap₂`, at the number 0: rewriting the whole reply takes ten times as long
-k9_full : (out : List ℕ) (work : ℕ) → length out ≤ 3 → 32 ≤ work → page_call 4 claw_table claw_degrees (settings 2 0 2) 8 (fresh 4) out work ≡ wrote_nothing 3 7 4 (1 ∷ 2 ∷ 2 ∷ 2 ∷ []) out
+k9_full : (out : List ℕ) (work : ℕ) → length out ≤ 3 → 32 ≤ work → page_call 4 claw_packed claw_degrees (settings 2 0 2) 8 (fresh 4) out work ≡ wrote_nothing 3 7 4 (1 ∷ 2 ∷ 2 ∷ 2 ∷ []) out
 unfolding compute
 k9_full out work h w = ap₂ (λ (k : ℕ) (r : Page). reply_of k r (fresh 4) out) (k9_accepted work w) (k9_stops (length out) h).0
 
-k9_spent : (out : List ℕ) (work : ℕ) → length out ≤ 3 → 32 ≤ work → page_call 4 claw_table claw_degrees (settings 2 0 2) 7 (fresh 4) out work ≡ wrote_nothing 2 7 0 (1 ∷ 2 ∷ 2 ∷ 2 ∷ []) out
+k9_spent : (out : List ℕ) (work : ℕ) → length out ≤ 3 → 32 ≤ work → page_call 4 claw_packed claw_degrees (settings 2 0 2) 7 (fresh 4) out work ≡ wrote_nothing 2 7 0 (1 ∷ 2 ∷ 2 ∷ 2 ∷ []) out
 unfolding compute
 k9_spent out work h w = ap₂ (λ (k : ℕ) (r : Page). reply_of k r (fresh 4) out) (k9_accepted work w) (k9_stops (length out) h).1
 

@@ -1,9 +1,9 @@
 -- Document 01's calls as functions of their arguments: the refusal number, the answer and what the lent memory then holds.
 -- Assumes nothing.
-use Rattle.std.specs.Prelude.{ℕ, zero, suc, ◌*◌, ◌-◌, Bool, true, false, ◌||◌, not, List, [], ◌∷◌, ◌++◌, length, get_or, drop, set, ltb, eqb}
+use Rattle.std.specs.Prelude.{ℕ, zero, suc, ◌+◌, ◌*◌, ◌-◌, ◌^◌, min, Bool, true, false, ◌||◌, not, List, [], ◌∷◌, ◌++◌, length, get_or, drop, set, ltb, eqb}
 use Rattle.std.specs.Bool.{beq}
 use Rattle.model.specs.Below.{any, least}
-use Rattle.model.specs.Graph.{Graph, LentGraph, by_table, degree}
+use Rattle.model.specs.Graph.{Graph, LentGraph, by_table, row_length, by_packed, degree}
 use Rattle.model.specs.Groups.{Settings, VertexSet, qualifies}
 use Rattle.model.specs.Walk.{Position, Rules, Page, only, page}
 use Rattle.model.specs.Listing.{is, rules}
@@ -31,18 +31,38 @@ unfoldable pub or_else : ℕ → ℕ → ℕ
 or_else zero later = later
 or_else (suc k) later = suc k
 
--- Document 01, "Turned back by the input": 1 n over 1,024; 2 table length not n × n; 3 a table byte other than 0 or 1; 4 a 1 on the diagonal; 5 not symmetric
+-- Document 01, "Turned back by the input": 4 a 1 on the diagonal; 5 not symmetric
+unfoldable pub refuse_graph : Graph → ℕ
+refuse_graph G = refuse 4 (looped G) (refuse 5 (one_way G) 0)
+
+-- Document 01, "Turned back by the input": 3 a table byte other than 0 or 1; then 4 and 5
+unfoldable pub refuse_bytes : ℕ → List ℕ → ℕ
+refuse_bytes n t = refuse 3 (over 1 t) (refuse_graph (by_table n t))
+
+-- Document 01, "Turned back by the input": 1 n over 1,024; 2 table length not n × n; then 3 to 5
 unfoldable pub refuse_table : ℕ → List ℕ → ℕ
-refuse_table n t =
-    refuse 1 (ltb 1024 n)
-    (refuse 2 (not (eqb (length t) (n * n)))
-    (refuse 3 (over 1 t)
-    (refuse 4 (looped (by_table n t))
-    (refuse 5 (one_way (by_table n t)) 0))))
+refuse_table n t = refuse 1 (ltb 1024 n) (refuse 2 (not (eqb (length t) (n * n))) (refuse_bytes n t))
 
 -- a graph as it is lent in a table of n × n bytes
 abbrev pub byte_table : ℕ → List ℕ → LentGraph
 byte_table n t = record { fault = refuse_table n t; graph = by_table n t }
+
+-- how many bits number j of a row of n bits has for vertices: 64, and the last number those that are left
+abbrev pub bits_of : ℕ → ℕ → ℕ
+bits_of n j = min 64 (n - 64 * j)
+
+-- Document 02, C-15, "a bit at or past n in a row": some number of a row has a bit that is no vertex's
+unfoldable pub stray : ℕ → List ℕ → Bool
+stray n t = any n (λ u. any (row_length n) (λ j. not (ltb (get_or t (u * row_length n + j) 0) (2 ^ bits_of n j))))
+
+-- Document 02, C-15: "On packed tables refusals 2, 4 and 5 read that form and 3 can't occur. Turned away: 45 (in the place of 3) a bit at or past n in a row."
+unfoldable pub refuse_packed : ℕ → List ℕ → ℕ
+refuse_packed n t =
+    refuse 1 (ltb 1024 n) (refuse 2 (not (eqb (length t) (n * row_length n))) (refuse 45 (stray n t) (refuse_graph (by_packed n t))))
+
+-- Document 02, C-15: a graph as it is lent in a packed table
+abbrev pub packed_table : ℕ → List ℕ → LentGraph
+packed_table n t = record { fault = refuse_packed n t; graph = by_packed n t }
 
 -- Document 02, C-12: "42 (right after 5) a degree not its row's ones, or the list not n long"
 unfoldable pub refuse_degrees : Graph → List ℕ → ℕ
@@ -129,11 +149,11 @@ reply_to c p =
     reply_of (refuse_page c.lent c.settings p c.work) (page (rules c.lent.graph c.settings) c.budget (length c.output) p)
     p c.output
 
--- the page call on a table of bytes, by the graph's size, table and degree list, the settings, the budget, the position, the output slice and the
+-- Document 02, C-15, the page call on a packed table, by the graph's size, table and degree list, the settings, the budget, the position, the output slice and the
 -- work slice's length
 abbrev pub page_call : ℕ → List ℕ → List ℕ → Settings → ℕ → Position → List ℕ → ℕ → PageReply
 page_call n t d s budget p out work =
-    reply_to (record { lent = with_degrees (byte_table n t) d; settings = s; budget = budget; output = out; work = work }) p
+    reply_to (record { lent = with_degrees (packed_table n t) d; settings = s; budget = budget; output = out; work = work }) p
 
 -- Document 01, "One set, one text, one program": the set is n bytes, 1 for a member
 abbrev pub by_bytes : List ℕ → VertexSet
@@ -157,6 +177,6 @@ query_reply (suc k) q = record { refused = suc k; yes = false }
 unfoldable pub answer_to : LentGraph → Settings → List ℕ → ℕ → QueryReply
 answer_to L s bs work = query_reply (refuse_query L s bs work) (qualifies L.graph s (by_bytes bs))
 
--- the set query on a table of bytes, by the graph's size, table and degree list, the settings, the set's bytes and the work slice's length
+-- Document 02, C-15, the set query on a packed table, by the graph's size, table and degree list, the settings, the set's bytes and the work slice's length
 abbrev pub query : ℕ → List ℕ → List ℕ → Settings → List ℕ → ℕ → QueryReply
-query n t d s bs work = answer_to (with_degrees (byte_table n t) d) s bs work
+query n t d s bs work = answer_to (with_degrees (packed_table n t) d) s bs work

@@ -1,10 +1,10 @@
 -- Document 02, C-12: the calls that join or part a pair, and the call that lists the degrees, as functions of their arguments.
 -- Assumes nothing.
-use Rattle.std.specs.Prelude.{ℕ, zero, suc, ◌+◌, ◌*◌, ◌-◌, ◌≤◌, ◌≡◌, Bool, true, false, ◌&&◌, not, ◌↔◌, ◌≢◌, ◌⊎◌, List, [], ◌∷◌, ◌++◌, length, get_or, set, ltb, eqb}
+use Rattle.std.specs.Prelude.{ℕ, zero, suc, ◌+◌, ◌*◌, ◌-◌, ◌/◌, ◌%◌, ◌≤◌, ◌≡◌, Bool, true, false, ◌&&◌, not, ◌↔◌, ◌≢◌, ◌⊎◌, List, [], ◌∷◌, ◌++◌, length, get_or, set, ltb, eqb}
 use Rattle.std.specs.Bool.{beq}
-use Rattle.model.specs.Below.{bit}
-use Rattle.model.specs.Graph.{Graph, LentGraph, by_table, with_pair, degree_list}
-use Rattle.model.specs.Calls.{refuse, or_else, byte_table, with_degrees}
+use Rattle.std.specs.Int.{bit_at}
+use Rattle.model.specs.Graph.{Graph, LentGraph, row_length, by_packed, with_bits, degree_list}
+use Rattle.model.specs.Calls.{refuse, or_else, packed_table, with_degrees}
 use Rattle.model.specs.Fault.{Fault, numbered}
 
 -- ---- an edit
@@ -46,9 +46,10 @@ edit_reply (suc k) so t d t₁ d₁ = record { refused = suc k; unchanged = fals
 unfoldable pub edit_to : LentGraph → Bool → ℕ → ℕ → List ℕ → List ℕ → List ℕ → EditReply
 edit_to L b u v t d t₁ = edit_reply (refuse_edit L u v) (beq (L.graph.joined u v) b) t d t₁ (recount b u (recount b v d))
 
--- an edit of a table of bytes: "the pair is then joined, or parted, its two degrees follow, and no other entry is touched"
+-- an edit of a packed table: "the pair is then joined, or parted, its two degrees follow, and no other entry is touched"; document 02, C-15: "an edit
+-- touches no bit but the pair's two"
 abbrev pub edit_call : Bool → ℕ → List ℕ → List ℕ → ℕ → ℕ → EditReply
-edit_call b n t d u v = edit_to (with_degrees (byte_table n t) d) b u v t d (with_pair (bit b) n u v t)
+edit_call b n t d u v = edit_to (with_degrees (packed_table n t) d) b u v t d (with_bits b n u v t)
 
 -- ---- what a reader believes of it
 
@@ -63,19 +64,21 @@ pub record ButFor (b : Bool) (u v : ℕ) (G H : Graph) : Type 0 where
   pub and_back : H.joined v u ≡ b
   pub elsewhere : (x y : ℕ) → ((x ≡ u) × (y ≡ v) → ⊥) → ((x ≡ v) × (y ≡ u) → ⊥) → H.joined x y ≡ G.joined x y
 
--- an accepted edit of a table t of n × n bytes with the list d of its degrees
+-- an accepted edit of a packed table t of a graph on n vertices with the list d of its degrees
 pub record Edited (b : Bool) (n u v : ℕ) (t d : List ℕ) (r : EditReply) : Type 0 where
   -- "the pair is then joined, or parted", in a graph that is otherwise the old one
-  pub graph : ButFor b u v (by_table n t) (by_table n r.table)
+  pub graph : ButFor b u v (by_packed n t) (by_packed n r.table)
   -- "its two degrees follow": the list is that of the new graph
-  pub follows : r.degrees ≡ degree_list (by_table n r.table)
-  -- "no other entry is touched"
+  pub follows : r.degrees ≡ degree_list (by_packed n r.table)
+  -- Document 02, C-15: "an edit touches no bit but the pair's two", bit v mod 64 of number v div 64 in the row of u and the other way round
   pub table-length : length r.table ≡ length t
-  pub table-others : (i : ℕ) → i ≢ u * n + v → i ≢ v * n + u → get_or r.table i 0 ≡ get_or t i 0
+  pub table-others : (i k : ℕ) → ((i ≡ u * row_length n + v / 64) × (k ≡ v % 64) → ⊥) → ((i ≡ v * row_length n + u / 64) × (k ≡ u % 64) → ⊥)
+      → bit_at (get_or r.table i 0) k ≡ bit_at (get_or t i 0) k
+  -- "no other entry is touched"
   pub degrees-length : length r.degrees ≡ length d
   pub degrees-others : (w : ℕ) → w ≢ u → w ≢ v → get_or r.degrees w 0 ≡ get_or d w 0
   -- "changes nothing, and only then the answer says so": unchanged exactly where the graph is the same, and then so is all that is lent
-  pub unchanged_iff : (r.unchanged ≡ true) ↔ (by_table n r.table ≡ by_table n t)
+  pub unchanged_iff : (r.unchanged ≡ true) ↔ (by_packed n r.table ≡ by_packed n t)
   pub unchanged-all : r.unchanged ≡ true → (r.table ≡ t) × (r.degrees ≡ d)
 
 -- ---- the list of degrees
@@ -98,9 +101,9 @@ degrees_reply (suc k) G d = record { refused = suc k; degrees = d }
 unfoldable pub degrees_to : LentGraph → List ℕ → DegreesReply
 degrees_to L d = degrees_reply (refuse_list L d) L.graph d
 
--- the same of a table of bytes
+-- the same of a packed table
 abbrev pub degrees_call : ℕ → List ℕ → List ℕ → DegreesReply
-degrees_call n t d = degrees_to (byte_table n t) d
+degrees_call n t d = degrees_to (packed_table n t) d
 
 -- the faults of that call on what is lent with these faults
 abbrev pub list_faults : List Fault → ℕ → List ℕ → List Fault

@@ -1,10 +1,11 @@
 -- Document 01, "Turned back by the input" and "Turned back by the state", as propositions about a call's arguments.
 -- `Rattle.theory.proofs.Calls.Faults` shows that the page call and the set query answer with the first of these faults.
 -- Assumes nothing.
-use Rattle.std.specs.Prelude.{ℕ, ◌+◌, ◌*◌, ◌<◌, ◌≡◌, false, ◌≢◌, ◌⊎◌, List, [], ◌∷◌, ◌++◌, length, get_or, set}
+use Rattle.std.specs.Prelude.{ℕ, ◌+◌, ◌*◌, ◌<◌, ◌≤◌, ◌≡◌, false, ◌≢◌, ◌⊎◌, List, [], ◌∷◌, ◌++◌, length, get_or, set}
+use Rattle.std.specs.Int.{bit_at}
 pub use Rattle.model.specs.Fault.{Fault}
 unfoldable pub use Rattle.model.specs.Fault.{numbered, NonZero, FirstFault, NoFault}
-use Rattle.model.specs.Graph.{Graph, LentGraph, degree}
+use Rattle.model.specs.Graph.{Graph, LentGraph, row_length, pair_bit, degree}
 use Rattle.model.specs.Groups.{Factor, Settings}
 use Rattle.model.specs.Meaning.{Under, Simple}
 use Rattle.model.specs.Walk.{Position}
@@ -18,14 +19,32 @@ numbers_of (f ∷ fs) = f.number ∷ numbers_of fs
 
 -- ---- the table, the degree list, the settings and the lengths
 
--- 1 n over 1,024; 2 table length not n × n; 3 a table byte other than 0 or 1; 4 a 1 on the diagonal; 5 not symmetric
-abbrev pub table_faults : ℕ → List ℕ → List Fault
-table_faults n t =
-    numbered 1 (1024 < n)
-    ∷ numbered 2 (length t ≢ n * n)
-    ∷ numbered 3 ((i : ℕ) × (i < length t) × (get_or t i 0 ≢ 0) × (get_or t i 0 ≢ 1))
+-- 3 a table byte other than 0 or 1; 4 a 1 on the diagonal; 5 not symmetric
+abbrev pub byte_faults : ℕ → List ℕ → List Fault
+byte_faults n t =
+    numbered 3 ((i : ℕ) × (i < length t) × (get_or t i 0 ≢ 0) × (get_or t i 0 ≢ 1))
     ∷ numbered 4 ((u : ℕ) × (u < n) × (get_or t (u * n + u) 0 ≡ 1))
     ∷ numbered 5 ((u : ℕ) × (v : ℕ) × (u < n) × (v < n) × (get_or t (u * n + v) 0 ≢ get_or t (v * n + u) 0))
+    ∷ []
+
+-- 1 n over 1,024; 2 table length not n × n; then 3 to 5
+abbrev pub table_faults : ℕ → List ℕ → List Fault
+table_faults n t = numbered 1 (1024 < n) ∷ numbered 2 (length t ≢ n * n) ∷ byte_faults n t
+
+-- bit k of number j in a row of n bits is no vertex's: it is at or past n in the row, or past the 64 bits of a number
+abbrev pub NoVertex : ℕ → ℕ → ℕ → Type 0
+NoVertex n j k = (n ≤ 64 * j + k) ⊎ (64 ≤ k)
+
+-- Document 02, C-15, a packed table: 1 n over 1,024; 2 table length not n × ceil(n / 64); 45 (in the place of 3) a bit at or past n in a row; 4 a 1 on
+-- the diagonal; 5 not symmetric
+abbrev pub packed_faults : ℕ → List ℕ → List Fault
+packed_faults n t =
+    numbered 1 (1024 < n)
+    ∷ numbered 2 (length t ≢ n * row_length n)
+    ∷ numbered 45
+    ((u : ℕ) × (j : ℕ) × (k : ℕ) × (u < n) × (j < row_length n) × NoVertex n j k × (bit_at (get_or t (u * row_length n + j) 0) k ≡ 1))
+    ∷ numbered 4 ((u : ℕ) × (u < n) × (pair_bit n t u u ≡ 1))
+    ∷ numbered 5 ((u : ℕ) × (v : ℕ) × (u < n) × (v < n) × (pair_bit n t u v ≢ pair_bit n t v u))
     ∷ []
 
 -- Document 02, C-12: 42 a degree not its row's ones, or the list not n long
@@ -90,7 +109,7 @@ pub record Lends (faults : List Fault) (L : LentGraph) : Type 0 where
   pub first : FirstFault faults L.fault
   pub simple : L.fault ≡ 0 → Simple L.graph
 
--- the page call: the faults of what is lent, 1 to 5 and 42 for a table of bytes and a degree list; 6 to 10, then 21 to 23
+-- the page call: the faults of what is lent, 1, 2, 45, 4, 5 and 42 for a packed table and a degree list; 6 to 10, then 21 to 23
 abbrev pub page_faults : List Fault → Graph → Settings → Position → ℕ → List Fault
 page_faults faults G s p work = faults ++ (settings_faults s ++ length_faults G.size (length p) work ++ position_faults G s.factor p)
 

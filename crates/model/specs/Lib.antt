@@ -10,6 +10,8 @@ pub mod Text
 pub mod Fault
 pub mod Faults
 pub mod Edits
+pub mod Packing
+pub mod BothTables
 pub mod EdgeText
 pub mod Repeats
 pub mod Program

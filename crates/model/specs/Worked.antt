@@ -1,15 +1,17 @@
 -- Document 01, "Graphs worked through": K1 to K10 as one statement, and beside it what they leave open and is pinned by value too. Both are
 -- proved in `Rattle.model.proofs.ByValue`.
 -- Assumes nothing.
-use Rattle.std.specs.Prelude.{ℕ, ◌+◌, ◌≤◌, ◌≡◌, true, false, List, [], ◌∷◌, ◌++◌, length, replicate}
-use Rattle.model.specs.Graph.{Graph, LentGraph, by_table}
+use Rattle.std.specs.Prelude.{ℕ, ◌+◌, ◌^◌, ◌≤◌, ◌≡◌, true, false, List, [], ◌∷◌, ◌++◌, length, replicate}
+use Rattle.model.specs.Below.{passing}
+use Rattle.model.specs.Graph.{Graph, LentGraph, by_table, row_length, by_packed}
 use Rattle.model.specs.Groups.{Settings, settings, isolated_clique}
 use Rattle.model.specs.Walk.{Position, fresh, lasts, full_list}
 use Rattle.model.specs.Listing.{record_with, rules}
 use Rattle.model.specs.Records.{RecordSays}
 use Rattle.model.specs.Text.{read_text}
-use Rattle.model.specs.Calls.{byte_table, with_degrees, refuse_settings, refuse_page, PageReply, page_call, by_bytes, QueryReply, query}
+use Rattle.model.specs.Calls.{refuse_packed, packed_table, with_degrees, refuse_settings, refuse_page, PageReply, page_call, by_bytes, QueryReply, query}
 use Rattle.model.specs.Edits.{edit_call, degrees_call}
+use Rattle.model.specs.Packing.{pack_call}
 
 -- the full list has these entries, and the walk this length
 abbrev pub Gives : Graph → Settings → List ℕ → ℕ → Type 0
@@ -43,9 +45,17 @@ claw = by_table 4 claw_table
 abbrev pub claw_degrees : List ℕ
 claw_degrees = 3 ∷ 1 ∷ 1 ∷ 1 ∷ []
 
--- both as they are lent to a call
+-- Document 02, C-15, its packed table: a row is one number, in which vertex v has weight 2 to the power v
+abbrev pub claw_packed : List ℕ
+claw_packed = 14 ∷ 1 ∷ 1 ∷ 1 ∷ []
+
+-- the packed table and the degrees, as they are lent to a call
 abbrev pub claw_lent : LentGraph
-claw_lent = with_degrees (byte_table 4 claw_table) claw_degrees
+claw_lent = with_degrees (packed_table 4 claw_packed) claw_degrees
+
+-- the first two rows of a packed table of 70 vertices, in two numbers each
+abbrev pub two_rows : Graph
+two_rows = by_packed 70 ((2 ^ 3 + 2 ^ 40) ∷ 4 ∷ 9 ∷ 32 ∷ [])
 
 -- the answer of a page that wrote nothing
 abbrev pub wrote_nothing : ℕ → ℕ → ℕ → Position → List ℕ → PageReply
@@ -65,9 +75,9 @@ pub record Worked : Type 0 where
   pub K8-min : (kind : ℕ) → kind ≤ 1 → Gives claw (settings 0 kind 1) (2 ∷ 0 ∷ 2 ∷ 1 ∷ 0 ∷ 2 ∷ 0 ∷ 2 ∷ 2 ∷ 0 ∷ 2 ∷ 0 ∷ 2 ∷ 3 ∷ 0 ∷ []) 20
   pub K8-avg : (kind : ℕ) → kind ≤ 1 → Gives claw (settings 1 kind 1) [] 20
   pub K9-full : (out : List ℕ) (work : ℕ) → length out ≤ 3 → 32 ≤ work →
-      page_call 4 claw_table claw_degrees (settings 2 0 2) 8 (fresh 4) out work ≡ wrote_nothing 3 7 4 (1 ∷ 2 ∷ 2 ∷ 2 ∷ []) out
+      page_call 4 claw_packed claw_degrees (settings 2 0 2) 8 (fresh 4) out work ≡ wrote_nothing 3 7 4 (1 ∷ 2 ∷ 2 ∷ 2 ∷ []) out
   pub K9-spent : (out : List ℕ) (work : ℕ) → length out ≤ 3 → 32 ≤ work →
-      page_call 4 claw_table claw_degrees (settings 2 0 2) 7 (fresh 4) out work ≡ wrote_nothing 2 7 0 (1 ∷ 2 ∷ 2 ∷ 2 ∷ []) out
+      page_call 4 claw_packed claw_degrees (settings 2 0 2) 7 (fresh 4) out work ≡ wrote_nothing 2 7 0 (1 ∷ 2 ∷ 2 ∷ 2 ∷ []) out
   pub K10 : (notion kind c work : ℕ) → notion ≤ 2 → kind ≤ 1 → 1 ≤ c → c ≤ 1024 → 32 ≤ work →
       (refuse_page claw_lent (settings notion kind c) (1 ∷ 1 ∷ 0 ∷ 0 ∷ []) work ≡ 0)
       × (refuse_page claw_lent (settings notion kind c) (1 ∷ 1 ∷ 1 ∷ 0 ∷ []) work ≡ 23)
@@ -110,11 +120,11 @@ one_edge =
 
 -- a page call on the claw, max, kind 0, c 2, with a work slice of exactly 8 × 4 entries
 abbrev pub on_claw : ℕ → Position → List ℕ → PageReply
-on_claw budget p out = page_call 4 claw_table claw_degrees (settings 2 0 2) budget p out 32
+on_claw budget p out = page_call 4 claw_packed claw_degrees (settings 2 0 2) budget p out 32
 
 -- a set query on it
 abbrev pub ask_claw : List ℕ → QueryReply
-ask_claw set = query 4 claw_table claw_degrees (settings 2 0 2) set 32
+ask_claw set = query 4 claw_packed claw_degrees (settings 2 0 2) set 32
 
 -- What K1 to K10 leave open, with any contents x of lent memory.
 pub record Pinned (x : ℕ) : Type 0 where
@@ -188,42 +198,52 @@ pub record Pinned (x : ℕ) : Type 0 where
       read_text (on_three 1 (e_text 1 1 [])) (replicate 9 x) ≡ record { refused = 37; vertices = 0; stated = 0; line = 2; slice = replicate 9 0 }
   -- Document 02, C-12: 42 comes right after 5, before 6, where a degree is one off, and where the list is one entry too short or too long
   pub degrees-refused :
-      (refuse_page (with_degrees (byte_table 4 claw_table) (3 ∷ 1 ∷ 1 ∷ 2 ∷ [])) (settings 3 0 2) (fresh 4) 32 ≡ 42)
-      × (refuse_page (with_degrees (byte_table 4 claw_table) (3 ∷ 1 ∷ 1 ∷ [])) (settings 3 0 2) (fresh 4) 32 ≡ 42)
-      × (refuse_page (with_degrees (byte_table 4 claw_table) (3 ∷ 1 ∷ 1 ∷ 1 ∷ 0 ∷ [])) (settings 3 0 2) (fresh 4) 32 ≡ 42)
+      (refuse_page (with_degrees (packed_table 4 claw_packed) (3 ∷ 1 ∷ 1 ∷ 2 ∷ [])) (settings 3 0 2) (fresh 4) 32 ≡ 42)
+      × (refuse_page (with_degrees (packed_table 4 claw_packed) (3 ∷ 1 ∷ 1 ∷ [])) (settings 3 0 2) (fresh 4) 32 ≡ 42)
+      × (refuse_page (with_degrees (packed_table 4 claw_packed) (3 ∷ 1 ∷ 1 ∷ 1 ∷ 0 ∷ [])) (settings 3 0 2) (fresh 4) 32 ≡ 42)
   -- "the pair is then joined, or parted, its two degrees follow": leaves 1 and 2 of the claw are joined, and leaf 3 is parted from the centre
   pub joined :
-      edit_call true 4 claw_table claw_degrees 1 2
+      edit_call true 4 claw_packed claw_degrees 1 2
       ≡ record {
         refused = 0;
         unchanged = false;
-        table =
-            0 ∷ 1 ∷ 1 ∷ 1 ∷
-            1 ∷ 0 ∷ 1 ∷ 0 ∷
-            1 ∷ 1 ∷ 0 ∷ 0 ∷
-            1 ∷ 0 ∷ 0 ∷ 0 ∷ [];
+        table = 14 ∷ 5 ∷ 3 ∷ 1 ∷ [];
         degrees = 3 ∷ 2 ∷ 2 ∷ 1 ∷ [];
       }
   pub parted :
-      edit_call false 4 claw_table claw_degrees 3 0
+      edit_call false 4 claw_packed claw_degrees 3 0
       ≡ record {
         refused = 0;
         unchanged = false;
-        table =
-            0 ∷ 1 ∷ 1 ∷ 0 ∷
-            1 ∷ 0 ∷ 0 ∷ 0 ∷
-            1 ∷ 0 ∷ 0 ∷ 0 ∷
-            0 ∷ 0 ∷ 0 ∷ 0 ∷ [];
+        table = 6 ∷ 1 ∷ 1 ∷ 0 ∷ [];
         degrees = 2 ∷ 1 ∷ 1 ∷ 0 ∷ [];
       }
   -- "Joining a joined pair, or parting a parted one, changes nothing, and only then the answer says so"
-  pub joined_already : edit_call true 4 claw_table claw_degrees 0 3 ≡ record { refused = 0; unchanged = true; table = claw_table; degrees = claw_degrees }
-  pub parted_already : edit_call false 4 claw_table claw_degrees 1 3 ≡ record { refused = 0; unchanged = true; table = claw_table; degrees = claw_degrees }
+  pub joined_already : edit_call true 4 claw_packed claw_degrees 0 3 ≡ record { refused = 0; unchanged = true; table = claw_packed; degrees = claw_degrees }
+  pub parted_already : edit_call false 4 claw_packed claw_degrees 1 3 ≡ record { refused = 0; unchanged = true; table = claw_packed; degrees = claw_degrees }
   -- "43 (edit, after 42) a vertex not below n; 44 (edit, after 43) both ends equal"
   pub edit_refused :
-      (edit_call true 4 claw_table (3 ∷ 1 ∷ 1 ∷ 2 ∷ []) 4 4 ≡ record { refused = 42; unchanged = false; table = claw_table; degrees = 3 ∷ 1 ∷ 1 ∷ 2 ∷ [] })
-      × (edit_call true 4 claw_table claw_degrees 4 4 ≡ record { refused = 43; unchanged = false; table = claw_table; degrees = claw_degrees })
-      × (edit_call false 4 claw_table claw_degrees 2 2 ≡ record { refused = 44; unchanged = false; table = claw_table; degrees = claw_degrees })
+      (edit_call true 4 claw_packed (3 ∷ 1 ∷ 1 ∷ 2 ∷ []) 4 4 ≡ record { refused = 42; unchanged = false; table = claw_packed; degrees = 3 ∷ 1 ∷ 1 ∷ 2 ∷ [] })
+      × (edit_call true 4 claw_packed claw_degrees 4 4 ≡ record { refused = 43; unchanged = false; table = claw_packed; degrees = claw_degrees })
+      × (edit_call false 4 claw_packed claw_degrees 2 2 ≡ record { refused = 44; unchanged = false; table = claw_packed; degrees = claw_degrees })
   -- the degrees of the claw are listed whatever the list held, and a list that is not n long is 42
-  pub listed : degrees_call 4 claw_table (x ∷ x ∷ x ∷ x ∷ []) ≡ record { refused = 0; degrees = claw_degrees }
-  pub listed-refused : degrees_call 4 claw_table (x ∷ x ∷ x ∷ x ∷ x ∷ []) ≡ record { refused = 42; degrees = x ∷ x ∷ x ∷ x ∷ x ∷ [] }
+  pub listed : degrees_call 4 claw_packed (x ∷ x ∷ x ∷ x ∷ []) ≡ record { refused = 0; degrees = claw_degrees }
+  pub listed-refused : degrees_call 4 claw_packed (x ∷ x ∷ x ∷ x ∷ x ∷ []) ≡ record { refused = 42; degrees = x ∷ x ∷ x ∷ x ∷ x ∷ [] }
+  -- Document 02, C-15: "ceil(n / 64) numbers"
+  pub row_lengths : (row_length 0 ≡ 0) × (row_length 64 ≡ 1) × (row_length 65 ≡ 2)
+  -- "vertex v at bit v mod 64 (weight 2 to that power) of number v div 64": of 70 vertices, whose rows have two numbers, 0 is joined to 3, 40 and 66, and 1
+  -- to 0, 3 and 69
+  pub packed_row :
+      (passing 70 (two_rows.joined 0) ≡ (3 ∷ 40 ∷ 66 ∷ []))
+      × (passing 70 (two_rows.joined 1) ≡ (0 ∷ 3 ∷ 69 ∷ []))
+  -- a bit at or past n is 45, right after 2 and before 4, in rows of one number and of two
+  pub stray_bits :
+      (refuse_packed 4 (14 ∷ 1 ∷ 1 ∷ []) ≡ 2)
+      × (refuse_packed 4 (15 ∷ 1 ∷ 1 ∷ 17 ∷ []) ≡ 45)
+      × (refuse_packed 4 (15 ∷ 1 ∷ 1 ∷ 1 ∷ []) ≡ 4)
+      × (refuse_packed 4 (14 ∷ 1 ∷ 1 ∷ 0 ∷ []) ≡ 5)
+      × (refuse_packed 65 (replicate 129 0 ++ 3 ∷ []) ≡ 45)
+      × (refuse_packed 65 (replicate 129 0 ++ 1 ∷ []) ≡ 4)
+  -- the claw is packed whatever the slice held, and a slice that is not n × ceil(n / 64) long is 2 and is left so
+  pub packed : pack_call 4 claw_table (x ∷ x ∷ x ∷ x ∷ []) ≡ record { refused = 0; packed = claw_packed }
+  pub packed-refused : pack_call 4 claw_table (x ∷ x ∷ x ∷ x ∷ x ∷ []) ≡ record { refused = 2; packed = x ∷ x ∷ x ∷ x ∷ x ∷ [] }

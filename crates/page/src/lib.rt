@@ -44,9 +44,9 @@ pub fn walk_on(
 
 // The page call with its settings, or its refusal. The state of the position with its last decided rank opened is built in memory of its own, so that
 // nothing that is lent is written before all refusals have passed.
-// Document 01, "Turned back by the state": 21 to 23 are tested after 1 to 5, 42 and 6 to 10.
+// Document 01, "Turned back by the state": 21 to 23 are tested after 1, 2, 45, 4, 5, 42 and 6 to 10.
 fn page_or_refusal(
-    table: &[u8],
+    table: &[u64],
     degrees: &[u16],
     position: &mut [u8],
     output: &mut [u16],
@@ -70,7 +70,7 @@ fn page_or_refusal(
 // the table and the degrees. A refused call leaves the position, the output and the work slice as they were; an accepted one walks on from the
 // position, at most as many steps as the budget has, and puts the groups that it passes into the output.
 pub fn page(
-    table: &[u8],
+    table: &[u64],
     degrees: &[u16],
     position: &mut [u8],
     output: &mut [u16],

@@ -78,8 +78,9 @@ pub fn qualifies(s: State, q: Criterion, g: &Ranked, work: &mut [u16]) -> bool
     // Copies made here field by field, so that the page's loop keeps its own in registers at every step.
     let lent = Lent {
         table: Table {
-            bytes: g.lent.table.bytes,
+            numbers: g.lent.table.numbers,
             n,
+            width: g.lent.table.width,
         },
         degrees: g.lent.degrees,
     };

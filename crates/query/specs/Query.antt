@@ -16,7 +16,7 @@ use Rattle.isolation.specs.Numbers.{settings_in}
 
 -- the call is accepted
 pub record QueryReady (l : Lent) (bs w : List ℕ) (q : Criterion) : Type 0 where
-  pub accepted : refuse_query (lent l.table.n l.table.bytes.now l.degrees.now) (settings_in q) bs (length w) ≡ 0
+  pub accepted : refuse_query (lent l.table.n l.table.numbers.now l.degrees.now) (settings_in q) bs (length w) ≡ 0
 
 -- whether the set qualifies, and the work slice as long as before
 pub record Decided (G : Graph) (bs before after : List ℕ) (s : groups.Settings) (r : Bool) : Type 0 where

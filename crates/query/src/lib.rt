@@ -44,10 +44,10 @@ impl From<Result<bool, Refusal>> for SetAnswer {
 }
 
 // The graph on n vertices that a table and a list of degrees hold and the criterion of the settings, for a set query with a work slice of `length` entries,
-// or the refusal: 1 to 5, 42 and 6 to 11 of document 01, "Turned back by the input", and document 02, C-12, in this order. Reads the table, the degrees and
+// or the refusal: 1, 2, 45, 4, 5, 42 and 6 to 11 of document 01, "Turned back by the input", and document 02, C-12, in this order. Reads the table, the degrees and
 // the set.
 fn lent_query<'a>(
-    table: &'a [u8],
+    table: &'a [u64],
     degrees: &'a [u16],
     set: &[u8],
     length: usize,
@@ -89,7 +89,7 @@ fn set_qualifies(lent: &Lent<'_>, set: &[u8], work: &mut [u16], q: Criterion) ->
 
 // Whether the set qualifies, or the refusal of the call. Reads the table, the degrees and the set; writes work only where the call is accepted.
 fn decide(
-    table: &[u8],
+    table: &[u64],
     degrees: &[u16],
     set: &[u8],
     work: &mut [u16],
@@ -105,7 +105,7 @@ fn decide(
 // The set query, for arguments of any length and contents: table, the degrees of its graph, set (n bytes, 1 for a member), a work slice, n, notion, kind
 // and the factor c. Reads the table, the degrees and the set; writes work only where the call is accepted.
 pub fn set_query(
-    table: &[u8],
+    table: &[u64],
     degrees: &[u16],
     set: &[u8],
     work: &mut [u16],

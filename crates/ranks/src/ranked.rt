@@ -8,5 +8,5 @@ use graph::Lent;
 pub struct Ranked<'a> {
     pub lent: Lent<'a>,
     pub order: &'a [u16],
-    pub ghost ordered: { OrderOf lent.table.n lent.table.bytes.now order.now },
+    pub ghost ordered: { OrderOf lent.table.n lent.table.numbers.now order.now },
 }

@@ -4,7 +4,7 @@ use Rattle.std.proofs.Common.{ℕ, ◌≡◌, ◌∙◌, ap, Result, arith}
 use Rattle.std.specs.Result.{IsErrAnd}
 use Rattle.std.proofs.lemmas.Result.{err_from_is_err_and}
 use Rattle.refusal.specs.declared.Refusal.{Refusal}
-use Rattle.refusal.specs.declared.Refusal.TheVariants.{TooManyVertices, TableLength, TableByte, SelfJoined, OneWay, Notion, Kind, Factor, BytesLength, WorkLength, SetByte, PositionByte, Gap, DeadPosition, FirstLetter, Form, NoProblemLine, SecondProblemLine, TextVertices, EdgeRange, EdgeLoop, EdgeCount, TableRoom, TextLength, Degrees, PairRange, PairEqual}
+use Rattle.refusal.specs.declared.Refusal.TheVariants.{TooManyVertices, TableLength, TableByte, SelfJoined, OneWay, Notion, Kind, Factor, BytesLength, WorkLength, SetByte, PositionByte, Gap, DeadPosition, FirstLetter, Form, NoProblemLine, SecondProblemLine, TextVertices, EdgeRange, EdgeLoop, EdgeCount, TableRoom, TextLength, Degrees, PairRange, PairEqual, StrayBit}
 use Rattle.refusal.specs.Numbers.{number, fault}
 
 -- the exit of a `?` hands on the refusal that it met
@@ -42,3 +42,4 @@ number-some TextLength e = omega arith
 number-some Degrees e = omega arith
 number-some PairRange e = omega arith
 number-some PairEqual e = omega arith
+number-some StrayBit e = omega arith

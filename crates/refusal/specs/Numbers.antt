@@ -2,9 +2,9 @@
 -- Assumes nothing.
 use Rattle.std.specs.Prelude.{ℕ, Result, Ok, Err}
 use Rattle.refusal.specs.declared.Refusal.{Refusal}
-use Rattle.refusal.specs.declared.Refusal.TheVariants.{TooManyVertices, TableLength, TableByte, SelfJoined, OneWay, Notion, Kind, Factor, BytesLength, WorkLength, SetByte, PositionByte, Gap, DeadPosition, FirstLetter, Form, NoProblemLine, SecondProblemLine, TextVertices, EdgeRange, EdgeLoop, EdgeCount, TableRoom, TextLength, Degrees, PairRange, PairEqual}
+use Rattle.refusal.specs.declared.Refusal.TheVariants.{TooManyVertices, TableLength, TableByte, SelfJoined, OneWay, Notion, Kind, Factor, BytesLength, WorkLength, SetByte, PositionByte, Gap, DeadPosition, FirstLetter, Form, NoProblemLine, SecondProblemLine, TextVertices, EdgeRange, EdgeLoop, EdgeCount, TableRoom, TextLength, Degrees, PairRange, PairEqual, StrayBit}
 
--- Document 01, "Turned back by the input" and "Turned back by the state", and document 02, C-12
+-- Document 01, "Turned back by the input" and "Turned back by the state", and document 02, C-12 and C-15
 abbrev pub number : Refusal → ℕ
 number TooManyVertices = 1
 number TableLength = 2
@@ -33,6 +33,7 @@ number TextLength = 41
 number Degrees = 42
 number PairRange = 43
 number PairEqual = 44
+number StrayBit = 45
 
 -- the number that an answer holds: 0 where nothing is refused
 abbrev pub fault : {A : Type 0} → Result A Refusal → ℕ

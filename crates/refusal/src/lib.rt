@@ -4,7 +4,7 @@
 ghost use Rattle.std.specs.Prelude.{◌≡◌};
 ghost use Rattle.refusal.specs.Numbers.{number};
 
-// The refusals of document 01, "Turned back by the input" and "Turned back by the state", and of document 02, C-12, in the order of their numbers.
+// The refusals of document 01, "Turned back by the input" and "Turned back by the state", and of document 02, C-12 and C-15, in the order of their numbers.
 #[derive(Clone, Copy, Debug, PartialEq, Eq)]
 pub enum Refusal {
     TooManyVertices = 1,
@@ -34,6 +34,7 @@ pub enum Refusal {
     Degrees = 42,
     PairRange = 43,
     PairEqual = 44,
+    StrayBit = 45,
 }
 
 impl From<Refusal> for u32 {

@@ -12,9 +12,9 @@ use Rattle.model.specs.Groups as groups
 use Rattle.model.specs.Text.{TextReply, read_text}
 use Rattle.model.specs.Program.{Words, listing, reading, by_reading, by_words, chosen, program_verdict}
 use Rattle.model.specs.Calls.{refuse_table}
+use Rattle.theory.proofs.Calls.TableFaults.{table-whole}
 use Rattle.theory.proofs.Text.EdgeTextGraph.{read_table-accepted}
 use Rattle.theory.proofs.Program.Program.{by_length, by_text, by_refusal, by_graph}
-use Rattle.graph.proofs.Faults.{table_fits}
 use Rattle.std.specs.Prelude.{Result, Ok, Err}
 use Rattle.refusal.specs.declared.Refusal.{Refusal}
 use Rattle.refusal.specs.declared.Refusal.TheVariants.{TextLength}
@@ -65,7 +65,7 @@ module _ (s : groups.Settings) (text : List ℕ) {before : List ℕ} (zeros : be
 
     read_fits : said.vertices * said.vertices ≤ length table
     read_fits =
-        let w = (table_fits said.vertices (take (said.vertices * said.vertices) table) read_accepted).whole in
+        let w = table-whole said.vertices (take (said.vertices * said.vertices) table) read_accepted in
         let l = length-take (said.vertices * said.vertices) table in
         omega arith
 

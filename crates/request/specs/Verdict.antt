@@ -1,9 +1,9 @@
 -- What the program's verdict promises. Assumes nothing.
 use Rattle.std.specs.Prelude.{ℕ, ◌*◌, ◌≤◌, ◌≡◌, List, length, take, Result, Ok, Err}
 use Rattle.model.specs.Groups.{Settings}
+use Rattle.model.specs.Calls.{refuse_table}
 use Rattle.model.specs.Program as program
 use Rattle.refusal.specs.Numbers.{number}
-use Rattle.graph.specs.Table.{lent_table}
 use Rattle.isolation.specs.Numbers.{settings_of}
 use Rattle.dimacs.specs.declared.Refused.{Refused}
 use Rattle.request.specs.declared.listing.Listing.{Listing}
@@ -20,7 +20,7 @@ abbrev pub Fine : Result Listing Refused → List ℕ → Type 0
 Fine (Err e) t = Unit {0}
 Fine (Ok l) t =
     let n = l.vertices in
-    (n * n ≤ length t) × ((lent_table n (take (n * n) t)).fault ≡ 0)
+    (n * n ≤ length t) × (refuse_table n (take (n * n) t) ≡ 0)
 
 -- a text, with settings that pass, is judged as the definition says
 pub record Judged (s : Settings) (text table : List ℕ) (r : Result Listing Refused) : Type 0 where

@@ -105,7 +105,9 @@ impl State {
         m
     }
 
-    // The state with the next rank taken: its vertex is tested against the taken ones. Does not touch the position.
+    // The state with the next rank taken: its vertex is tested against the taken ones. Does not touch the position. Inlined, since a call would make a step
+    // longer by a quarter.
+    #[inline(always)]
     pub fn push_taken(self, g: &Ranked, work: &mut [u16]) -> State
         requires { StandsOpen (ranked_graph g.now) work.old self }
         ensures { Pushed (ranked_graph g.now) 1 work.old self work.new result }
@@ -132,7 +134,7 @@ impl State {
 
     // The state with the next rank left: a neighbour of the pivot goes onto part 2. Reads the table and the slice of its rank order. Does not touch the position.
     pub fn push_left(self, table: &Table, order: &[u16], work: &mut [u16]) -> State
-        requires { OrderOf table.now.n table.now.bytes.now order.now × StandsOpen (graph_in table.now) work.old self }
+        requires { OrderOf table.now.n table.now.numbers.now order.now × StandsOpen (graph_in table.now) work.old self }
         ensures { Pushed (graph_in table.now) 2 work.old self work.new result }
     {
         let n = table.n;

@@ -1,10 +1,11 @@
-//! What page, set query and edits reply, as document 01 and requests C-12 and C-14 word it: refusals in their order, then
-//! the page's five points, or the pair and its degrees.
+//! What page, set query, edits and the packing reply, as document 01 and requests C-12, C-14 and C-15 word it: refusals in
+//! their order, then the page's five points, the pair and its degrees, or the packed table.
 
 use crate::graph::Graph;
 use crate::groups::{record, FullList, Settings};
-use crate::library::{DegreesReply, Edit, EditAnswer, EditReply, EditRequest};
+use crate::library::{DegreesReply, Edit, EditAnswer, EditReply, EditRequest, PackReply};
 use crate::library::{PageAnswer, PageReply, PageRequest, SetAnswer, SetReply, SetRequest};
+use crate::packed;
 use crate::walk::{Walk, LEFT, OPEN};
 
 /// The number of the first test that finds its fault.
@@ -12,25 +13,38 @@ fn first(tests: &[(u32, &dyn Fn() -> bool)]) -> Option<u32> {
     tests.iter().find(|(_, fault)| fault()).map(|(number, _)| *number)
 }
 
-/// "Turned back by the input", numbers 1 to 5.
-fn by_table(table: &[u8], n: usize) -> Option<u32> {
-    let byte = |u: usize, v: usize| table[u * n + v];
+/// "Turned back by the input", numbers 1 to 5 of a byte table, and 2 of the slice that it is packed into too.
+fn by_bytes(bytes: &[u8], packed: usize, n: usize) -> Option<u32> {
+    let byte = |u: usize, v: usize| bytes[u * n + v];
     first(&[
         (1, &|| n > 1024),
-        (2, &|| table.len() != n * n),
-        (3, &|| table.iter().any(|&byte| byte != 0 && byte != 1)),
+        (2, &|| bytes.len() != n * n || packed != n * packed::row_numbers(n)),
+        (3, &|| bytes.iter().any(|&byte| byte != 0 && byte != 1)),
         (4, &|| (0..n).any(|u| byte(u, u) == 1)),
         (5, &|| (0..n).any(|u| (0..n).any(|v| byte(u, v) != byte(v, u)))),
     ])
 }
 
-/// The same with the degrees beside the table, 42 right after 5.
-fn by_graph(table: &[u8], degrees: &[u16], n: usize) -> Option<u32> {
-    by_table(table, n).or_else(|| (degrees != Graph { n, table: table.to_vec() }.degrees()).then_some(42))
+/// The same of a packed table, 45 in the place of 3.
+fn by_table(table: &[u64], n: usize) -> Option<u32> {
+    let row = packed::row_numbers(n);
+    let bit = |u: usize, v: usize| packed::bit(table, n, u, v);
+    first(&[
+        (1, &|| n > 1024),
+        (2, &|| table.len() != n * row),
+        (45, &|| (0..n).any(|u| (n..64 * row).any(|place| bit(u, place)))),
+        (4, &|| (0..n).any(|u| bit(u, u))),
+        (5, &|| (0..n).any(|u| (0..n).any(|v| bit(u, v) != bit(v, u)))),
+    ])
 }
 
-/// "Turned back by the input", numbers 1 to 10 and 42; `marks` is the length of the position or the set.
-fn by_input(table: &[u8], degrees: &[u16], n: usize, settings: Settings, marks: usize, work: usize) -> Option<u32> {
+/// The same with the degrees beside the table, 42 right after 5.
+fn by_graph(table: &[u64], degrees: &[u16], n: usize) -> Option<u32> {
+    by_table(table, n).or_else(|| (degrees != packed::graph(table, n).degrees()).then_some(42))
+}
+
+/// "Turned back by the input", numbers 1, 2, 45, 4, 5, 42 and 6 to 10; `marks` is the length of the position or the set.
+fn by_input(table: &[u64], degrees: &[u16], n: usize, settings: Settings, marks: usize, work: usize) -> Option<u32> {
     let Settings { notion, kind, c } = settings;
     by_graph(table, degrees, n).or_else(|| {
         first(&[
@@ -61,7 +75,7 @@ fn by_state(walk: &Walk, position: &[u8]) -> Option<u32> {
 pub fn page_refusal(request: &PageRequest) -> Option<u32> {
     let PageRequest { table, degrees, position, work, n, settings, .. } = request;
     by_input(table, degrees, *n, *settings, position.len(), work.len()).or_else(|| {
-        let graph = Graph { n: request.n, table: request.table.clone() };
+        let graph = packed::graph(&request.table, request.n);
         by_state(&Walk::new(&graph, request.settings.c), &request.position)
     })
 }
@@ -73,7 +87,7 @@ pub fn page(request: &PageRequest, list: &FullList) -> PageReply {
         let answer = PageAnswer { refusal, ..PageAnswer::default() };
         return PageReply { answer, position, output, work: Some(request.work.clone()) };
     }
-    let graph = Graph { n: request.n, table: request.table.clone() };
+    let graph = packed::graph(&request.table, request.n);
     let walk = Walk::new(&graph, request.settings.c);
     let mut answer = PageAnswer::default();
     answer.stop = loop {
@@ -112,7 +126,7 @@ pub fn set_query(request: &SetRequest, list: &FullList) -> SetReply {
     if let Some(refusal) = set_refusal(request) {
         return SetReply { answer: SetAnswer { refusal, yes: 0 }, work: Some(request.work.clone()) };
     }
-    let graph = Graph { n: request.n, table: request.table.clone() };
+    let graph = packed::graph(&request.table, request.n);
     let set: Vec<usize> = graph.order().into_iter().filter(|&v| request.set[v] == 1).collect();
     SetReply { answer: SetAnswer { refusal: 0, yes: list.has(&set).into() }, work: None }
 }
@@ -130,18 +144,25 @@ pub fn edit(edit: Edit, request: &EditRequest) -> EditReply {
         return EditReply { answer: EditAnswer { refusal, unchanged: 0 }, table, degrees };
     }
     let EditRequest { n, u, v, .. } = *request;
-    let byte = (edit == Edit::Join).into();
-    table[u * n + v] = byte;
-    table[v * n + u] = byte;
+    packed::put(&mut table, n, u, v, edit == Edit::Join);
+    packed::put(&mut table, n, v, u, edit == Edit::Join);
     let unchanged = (table == request.table).into();
-    let degrees = Graph { n, table: table.clone() }.degrees();
+    let degrees = packed::graph(&table, n).degrees();
     EditReply { answer: EditAnswer { refusal: 0, unchanged }, table, degrees }
 }
 
 /// The whole reply of a count of the degrees.
-pub fn degrees(table: &[u8], degrees: &[u16], n: usize) -> DegreesReply {
+pub fn degrees(table: &[u64], degrees: &[u16], n: usize) -> DegreesReply {
     match by_table(table, n).or_else(|| (degrees.len() != n).then_some(42)) {
         Some(refusal) => DegreesReply { refusal, degrees: degrees.to_vec() },
-        None => DegreesReply { refusal: 0, degrees: Graph { n, table: table.to_vec() }.degrees() },
+        None => DegreesReply { refusal: 0, degrees: packed::graph(table, n).degrees() },
+    }
+}
+
+/// The whole reply of a packing.
+pub fn pack(bytes: &[u8], packed: &[u64], n: usize) -> PackReply {
+    match by_bytes(bytes, packed.len(), n) {
+        Some(refusal) => PackReply { refusal, packed: packed.to_vec() },
+        None => PackReply { refusal: 0, packed: packed::pack(&Graph { n, table: bytes.to_vec() }) },
     }
 }

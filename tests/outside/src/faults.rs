@@ -4,46 +4,47 @@ use crate::calls;
 use crate::graph::Graph;
 use crate::groups::Settings;
 use crate::library::{self, Edit, EditAnswer, EditReply, EditRequest, PageAnswer, PageRequest, SetAnswer, SetRequest};
+use crate::packed;
 use crate::random::Random;
 use std::fmt;
 
-/// A graph as it is lent: a table, a list of degrees and n, which need not fit one another.
+/// A graph as it is lent: a packed table, a list of degrees and n, which need not fit one another.
 #[derive(Clone)]
 pub struct LentGraph {
-    pub table: Vec<u8>,
+    pub table: Vec<u64>,
     pub degrees: Vec<u16>,
     pub n: usize,
 }
 
 impl LentGraph {
     pub fn of(graph: &Graph) -> LentGraph {
-        LentGraph { table: graph.table.clone(), degrees: graph.degrees(), n: graph.n }
+        LentGraph { table: packed::pack(graph), degrees: graph.degrees(), n: graph.n }
     }
 
-    /// Puts the fault of a number, 2 to 5 or 42, into a sound graph of 15 vertices or more: in row or column 14 or a
-    /// later one, at degree 14 or a later one, or in a length.
+    /// Puts the fault of a number, 2, 45, 4, 5 or 42, into a graph of 15 vertices or more: in row or column 14 or a later
+    /// one, at degree 14 or a later one, or in a length. 45 is only for n that are no multiple of 64.
     pub fn spoil(&mut self, random: &mut Random, number: u32) {
         let n = self.n;
         let (u, step) = (random.between(14, n - 1), random.between(1, n - 1));
         let v = (u + step) % n;
-        let place = if random.percent(50) { u * n + v } else { v * n + u };
         match number {
             2 if random.percent(50) => self.table.push(0),
-            2 => self.table.truncate(n * n - 1),
-            3 => self.table[place] = random.between(2, 255) as u8,
-            4 => self.table[u * n + u] = 1,
-            5 => self.table[place] ^= 1,
+            2 => self.table.truncate(n * packed::row_numbers(n) - 1),
+            45 => packed::put(&mut self.table, n, u, packed::stray_place(random, n).unwrap(), true),
+            4 => packed::put(&mut self.table, n, u, u, true),
+            5 if random.percent(50) => packed::turn(&mut self.table, n, u, v),
+            5 => packed::turn(&mut self.table, n, v, u),
             42 => self.degrees[u] = self.degrees[u].wrapping_add(*random.pick(&[1, u16::MAX, 255, 256, 1 << 15])),
             _ => unreachable!(),
         }
     }
 }
 
-/// The bytes of the table that are not 0, each with its place.
+/// The numbers of the table that are not 0, each with its place.
 impl fmt::Debug for LentGraph {
     fn fmt(&self, out: &mut fmt::Formatter<'_>) -> fmt::Result {
-        let bytes: Vec<_> = self.table.iter().enumerate().filter(|(_, &byte)| byte != 0).collect();
-        write!(out, "n {}, table of {} bytes {bytes:?}, degrees {:?}", self.n, self.table.len(), self.degrees)
+        let numbers: Vec<_> = self.table.iter().enumerate().filter(|(_, &number)| number != 0).collect();
+        write!(out, "n {}, table of {} numbers {numbers:x?}, degrees {:?}", self.n, self.table.len(), self.degrees)
     }
 }
 

@@ -7,7 +7,7 @@ pub fn pairs(n: usize) -> impl Iterator<Item = (usize, usize)> {
     (0..n).flat_map(move |u| (u + 1..n).map(move |v| (u, v)))
 }
 
-/// A graph by its table: n × n bytes, row by row, 1 where two vertices are joined.
+/// A graph by its byte table: n × n bytes, row by row, 1 where two vertices are joined.
 #[derive(Clone, PartialEq, Eq)]
 pub struct Graph {
     pub n: usize,

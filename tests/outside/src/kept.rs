@@ -3,6 +3,7 @@
 use crate::graph::Graph;
 use crate::groups::{Reference, Settings};
 use crate::library::{self, Edit, EditAnswer, EditRequest, PageRequest};
+use crate::packed;
 use crate::random::Random;
 use std::collections::BTreeSet;
 
@@ -10,14 +11,14 @@ use std::collections::BTreeSet;
 pub struct Kept {
     pub n: usize,
     pub pairs: BTreeSet<(usize, usize)>,
-    pub table: Vec<u8>,
+    pub table: Vec<u64>,
     pub degrees: Vec<u16>,
 }
 
 impl Kept {
     pub fn of(graph: &Graph) -> Kept {
         let pairs = graph.edges().into_iter().collect();
-        Kept { n: graph.n, pairs, table: graph.table.clone(), degrees: graph.degrees() }
+        Kept { n: graph.n, pairs, table: packed::pack(graph), degrees: graph.degrees() }
     }
 
     /// The graph of the set of pairs.
@@ -37,7 +38,7 @@ impl Kept {
             degrees[v] += 1;
         }
         assert_eq!(self.degrees, degrees, "the degrees of {:?}", self.graph());
-        assert!(self.table == self.graph().table, "the table is not that of {:?}", self.graph());
+        assert!(self.table == packed::pack(&self.graph()), "the table is not that of {:?}", self.graph());
     }
 
     /// An edit that is accepted, by the library and in the set; whether it changed anything.

@@ -21,6 +21,12 @@ impl Entry for u16 {
     }
 }
 
+impl Entry for u64 {
+    fn guard(place: usize) -> u64 {
+        (place as u64 + 1).wrapping_mul(0x9E37_79B9_7F4A_7C15)
+    }
+}
+
 pub struct Lent<T> {
     all: Vec<T>,
 }

@@ -1,8 +1,9 @@
-//! The library's six calls over guarded memory. What a call was handed and what it left are plain values here.
+//! The library's seven calls over guarded memory. What a call was handed and what it left are plain values here.
 
 use crate::graph::Graph;
 use crate::groups::Settings;
 use crate::lent::Lent;
+use crate::packed;
 use crate::random::Random;
 use isolated::raw;
 
@@ -11,7 +12,7 @@ pub use isolated::raw::{EditAnswer, PageAnswer, SetAnswer, TextAnswer};
 /// The arguments of a page call.
 #[derive(Clone, Debug)]
 pub struct PageRequest {
-    pub table: Vec<u8>,
+    pub table: Vec<u64>,
     pub degrees: Vec<u16>,
     pub position: Vec<u8>,
     pub output: Vec<u16>,
@@ -25,7 +26,7 @@ impl PageRequest {
     /// A call from the fresh position with an output of so many entries; output and work slice hold anything.
     pub fn fresh(random: &mut Random, graph: &Graph, settings: Settings, entries: usize, budget: u32) -> PageRequest {
         let n = graph.n;
-        let (table, degrees) = (graph.table.clone(), graph.degrees());
+        let (table, degrees) = (packed::pack(graph), graph.degrees());
         let (output, work) = (random.entries(entries), random.entries(8 * n));
         PageRequest { table, degrees, position: vec![0; n], output, work, n, settings, budget }
     }
@@ -81,7 +82,7 @@ pub fn page(request: &PageRequest) -> PageReply {
 /// The arguments of a set query.
 #[derive(Clone, Debug)]
 pub struct SetRequest {
-    pub table: Vec<u8>,
+    pub table: Vec<u64>,
     pub degrees: Vec<u16>,
     pub set: Vec<u8>,
     pub work: Vec<u16>,
@@ -92,7 +93,7 @@ pub struct SetRequest {
 impl SetRequest {
     /// A query of a set, one byte a vertex; the work slice holds anything.
     pub fn of(random: &mut Random, graph: &Graph, settings: Settings, set: Vec<u8>) -> SetRequest {
-        let (table, degrees) = (graph.table.clone(), graph.degrees());
+        let (table, degrees) = (packed::pack(graph), graph.degrees());
         SetRequest { table, degrees, set, work: random.entries(8 * graph.n), n: graph.n, settings }
     }
 }
@@ -136,7 +137,7 @@ pub fn set_query(request: &SetRequest) -> SetReply {
 /// The arguments of an edit.
 #[derive(Clone, Debug)]
 pub struct EditRequest {
-    pub table: Vec<u8>,
+    pub table: Vec<u64>,
     pub degrees: Vec<u16>,
     pub n: usize,
     pub u: usize,
@@ -145,7 +146,7 @@ pub struct EditRequest {
 
 impl EditRequest {
     pub fn of(graph: &Graph, u: usize, v: usize) -> EditRequest {
-        EditRequest { table: graph.table.clone(), degrees: graph.degrees(), n: graph.n, u, v }
+        EditRequest { table: packed::pack(graph), degrees: graph.degrees(), n: graph.n, u, v }
     }
 }
 
@@ -153,7 +154,7 @@ impl EditRequest {
 #[derive(Clone, Debug, PartialEq)]
 pub struct EditReply {
     pub answer: EditAnswer,
-    pub table: Vec<u8>,
+    pub table: Vec<u64>,
     pub degrees: Vec<u16>,
 }
 
@@ -189,7 +190,7 @@ pub struct DegreesReply {
     pub degrees: Vec<u16>,
 }
 
-pub fn degrees(table: &[u8], degrees: &[u16], n: usize) -> DegreesReply {
+pub fn degrees(table: &[u64], degrees: &[u16], n: usize) -> DegreesReply {
     let mut lent_table = Lent::new(table);
     let mut lent_degrees = Lent::new(degrees);
     // SAFETY: two slices that do not overlap, each with its own length.
@@ -200,7 +201,25 @@ pub fn degrees(table: &[u8], degrees: &[u16], n: usize) -> DegreesReply {
     DegreesReply { refusal, degrees: lent_degrees.contents("the degrees") }
 }
 
-/// The text reader's answer and the table it left.
+/// The refusal's number of a packing, and the packed slice it left.
+#[derive(Clone, Debug, PartialEq)]
+pub struct PackReply {
+    pub refusal: u32,
+    pub packed: Vec<u64>,
+}
+
+pub fn pack(bytes: &[u8], packed: &[u64], n: usize) -> PackReply {
+    let mut lent_bytes = Lent::new(bytes);
+    let mut lent_packed = Lent::new(packed);
+    // SAFETY: two slices that do not overlap, each with its own length.
+    let refusal = unsafe {
+        raw::isolated_pack(lent_bytes.pointer(), lent_bytes.len(), lent_packed.pointer(), lent_packed.len(), n)
+    };
+    assert!(lent_bytes.contents("the bytes") == bytes, "the bytes were written");
+    PackReply { refusal, packed: lent_packed.contents("the packed slice") }
+}
+
+/// The text reader's answer and the byte table it left.
 #[derive(Clone, Debug, PartialEq)]
 pub struct TextReply {
     pub answer: TextAnswer,

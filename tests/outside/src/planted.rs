@@ -7,7 +7,7 @@ use crate::library::{SetAnswer, SetReply, SetRequest};
 use crate::random::Random;
 
 /// The vertices of a set, lowest first.
-pub fn members(set: u64) -> impl Iterator<Item = usize> {
+pub fn members(set: u128) -> impl Iterator<Item = usize> {
     let mut rest = set;
     std::iter::from_fn(move || {
         let lowest = (rest != 0).then(|| rest.trailing_zeros() as usize);
@@ -18,7 +18,7 @@ pub fn members(set: u64) -> impl Iterator<Item = usize> {
 
 /// A clique of k members with m common neighbours in a graph of n vertices. Of the pairs of these neighbours, 30 to 95 in a
 /// hundred are joined, and further neighbours bring their degrees near one another. Every number is drawn.
-pub fn planted(random: &mut Random, n: usize, k: usize, m: usize) -> (Graph, u64) {
+pub fn planted(random: &mut Random, n: usize, k: usize, m: usize) -> (Graph, u128) {
     let density = random.between(30, 95);
     let (least, spread) = (random.between(m, k + m + 16), random.between(1, 6));
     let mut vertices: Vec<usize> = (0..n).collect();
@@ -41,30 +41,31 @@ pub fn planted(random: &mut Random, n: usize, k: usize, m: usize) -> (Graph, u64
     (graph, inside[..k].iter().map(|&v| 1 << v).sum())
 }
 
-/// A clique of a graph of up to 64 vertices, its common neighbours, and every larger clique that contains it: the clique
+/// A clique of a graph of up to 128 vertices, its common neighbours, and every larger clique that contains it: the clique
 /// with some of these, the smallest first.
 pub struct Posed {
-    rows: Vec<u64>,
-    pub set: u64,
+    rows: Vec<u128>,
+    pub set: u128,
     pub common: Vec<usize>,
-    larger: Vec<u64>,
+    larger: Vec<u128>,
 }
 
 impl Posed {
-    pub fn of(graph: &Graph, set: u64) -> Posed {
+    pub fn of(graph: &Graph, set: u128) -> Posed {
         let row = |u: usize| (0..graph.n).filter(|&v| graph.joined(u, v)).map(|v| 1 << v).sum();
-        let rows: Vec<u64> = (0..graph.n).map(row).collect();
-        let clique = |set: u64| set != 0 && members(set).all(|u| members(set).all(|v| u == v || rows[u] >> v & 1 == 1));
+        let rows: Vec<u128> = (0..graph.n).map(row).collect();
+        let clique =
+            |set: u128| set != 0 && members(set).all(|u| members(set).all(|v| u == v || rows[u] >> v & 1 == 1));
         assert!(clique(set), "{set:#b} is no clique of {graph:?}");
         let common: Vec<usize> = (0..graph.n).filter(|&v| members(set).all(|u| graph.joined(u, v))).collect();
-        let with = |chosen: u64| set | members(chosen).map(|place| 1 << common[place]).sum::<u64>();
-        let mut larger: Vec<u64> = (1..1 << common.len()).map(with).filter(|&larger| clique(larger)).collect();
+        let with = |chosen: u128| set | members(chosen).map(|place| 1 << common[place]).sum::<u128>();
+        let mut larger: Vec<u128> = (1..1 << common.len()).map(with).filter(|&larger| clique(larger)).collect();
         larger.sort_by_key(|larger| larger.count_ones());
         Posed { rows, set, common, larger }
     }
 
     /// The notions, by the neighbours of each member that are not in the clique.
-    pub fn isolated(&self, clique: u64, settings: Settings) -> bool {
+    pub fn isolated(&self, clique: u128, settings: Settings) -> bool {
         let outside = |u: usize| (self.rows[u] & !clique).count_ones();
         match settings.notion {
             0 => members(clique).any(|u| outside(u) < settings.c),
@@ -75,7 +76,7 @@ impl Posed {
     }
 
     /// The smallest larger set that keeps the clique from qualifying: an isolated clique at kind 0, a clique at kind 1.
-    pub fn beaten_by(&self, settings: Settings) -> Option<u64> {
+    pub fn beaten_by(&self, settings: Settings) -> Option<u128> {
         self.larger.iter().copied().find(|&larger| settings.kind == 1 || self.isolated(larger, settings))
     }
 }
@@ -91,7 +92,7 @@ pub struct Said {
 }
 
 impl Said {
-    fn count(&mut self, posed: &Posed, settings: Settings, beaten_by: Option<u64>) {
+    fn count(&mut self, posed: &Posed, settings: Settings, beaten_by: Option<u128>) {
         if settings.kind == 0 && settings.notion != 0 && posed.isolated(posed.set, settings) {
             let yes = usize::from(beaten_by.is_none());
             self.all[yes] += 1;
@@ -105,7 +106,7 @@ impl Said {
 /// request that is not answered as the definitions say?
 pub fn differing(
     random: &mut Random,
-    (graph, set): &(Graph, u64),
+    (graph, set): &(Graph, u128),
     said: &mut Said,
     query: impl Fn(&SetRequest) -> SetReply,
 ) -> Option<SetRequest> {

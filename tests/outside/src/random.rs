@@ -51,6 +51,11 @@ impl Random {
         (0..count).map(|_| self.number() as u8).collect()
     }
 
+    /// So many numbers of any contents.
+    pub fn numbers(&mut self, count: usize) -> Vec<u64> {
+        (0..count).map(|_| self.number()).collect()
+    }
+
     pub fn shuffle<T>(&mut self, list: &mut [T]) {
         for i in (1..list.len()).rev() {
             list.swap(i, self.below(i + 1));

@@ -7,14 +7,17 @@ use outside::cases::{alone, cases};
 use outside::graph::Graph;
 use outside::groups::{Reference, Settings};
 use outside::library::{self, PageRequest, SetAnswer, SetReply, SetRequest};
+use outside::packed;
 use outside::planted::{differing, members, planted, Said};
 use outside::random::Random;
 use std::iter::repeat_n;
 
-/// A planted set, mostly with many common neighbours, in a graph with room for further ones.
-fn sample(random: &mut Random) -> (Graph, u64) {
+/// A planted set, mostly with many common neighbours, in a graph with room for further ones, often in a second number of a
+/// row.
+fn sample(random: &mut Random) -> (Graph, u128) {
     let (k, m) = (random.between(1, 4), random.below(15).max(random.below(15)));
-    let n = random.between(k + m, 64).max(random.between(40, 64));
+    let most = *random.pick(&[64, 128]);
+    let n = random.between(k + m, most).max(random.between(40, most));
     planted(random, n, k, m)
 }
 
@@ -84,8 +87,9 @@ struct Faulty<'a> {
 impl Faulty<'_> {
     fn query(request: &SetRequest, fault: Fault) -> SetReply {
         let (n, Settings { notion, kind, .. }) = (request.n, request.settings);
-        let set: u64 = (0..n).filter(|&v| request.set[v] == 1).map(|v| 1 << v).sum();
-        let common: Vec<usize> = (0..n).filter(|&v| members(set).all(|u| request.table[u * n + v] == 1)).collect();
+        let set: u128 = (0..n).filter(|&v| request.set[v] == 1).map(|v| 1 << v).sum();
+        let joined = |u: usize, v: usize| packed::bit(&request.table, n, u, v);
+        let common: Vec<usize> = (0..n).filter(|&v| members(set).all(|u| joined(u, v))).collect();
         let m = common.len();
         let marks = request.work[4 * n..4 * n + m].to_vec();
         let mut search = Faulty { request, common, marks, low: 0, fault };
@@ -95,7 +99,7 @@ impl Faulty<'_> {
     }
 
     /// By the degrees, with so many more members of the least degree.
-    fn isolated(&self, set: u64, more: usize) -> bool {
+    fn isolated(&self, set: u128, more: usize) -> bool {
         let (notion, c) = (self.request.settings.notion, i64::from(self.request.settings.c));
         let others = i64::from(set.count_ones()) + more as i64 - 1;
         let degrees = members(set).map(|v| i64::from(self.request.degrees[v]));
@@ -107,11 +111,11 @@ impl Faulty<'_> {
         }
     }
 
-    fn hopeless(&self, set: u64, left: usize) -> bool {
+    fn hopeless(&self, set: u128, left: usize) -> bool {
         left == 0 || !self.isolated(set, left) && !self.isolated(set, 1)
     }
 
-    fn beaten(&mut self, set: u64) -> bool {
+    fn beaten(&mut self, set: u128) -> bool {
         let m = self.common.len();
         if self.hopeless(set, m) {
             return false;
@@ -130,7 +134,7 @@ impl Faulty<'_> {
         self.fault != Fault::FirstAlone && !self.hopeless(set, m - 1) && self.search(set, 1, m - 1)
     }
 
-    fn search(&mut self, set: u64, from: usize, mut left: usize) -> bool {
+    fn search(&mut self, set: u128, from: usize, mut left: usize) -> bool {
         for place in from..self.common.len() {
             if self.marks[place] != 0 && self.fault != Fault::DroppedTried {
                 continue;
@@ -148,7 +152,7 @@ impl Faulty<'_> {
     }
 
     /// With the candidate at the place added, which is the last member of the set.
-    fn search_with(&mut self, with: u64, place: usize) -> bool {
+    fn search_with(&mut self, with: u128, place: usize) -> bool {
         let depth = with.count_ones() as u16;
         let kept = self.drop_out(place, depth);
         if !self.hopeless(with, kept) && self.search(with, place + 1, kept) {
@@ -159,9 +163,9 @@ impl Faulty<'_> {
     }
 
     fn drop_out(&mut self, place: usize, depth: u16) -> usize {
-        let row = self.common[place] * self.request.n;
         for later in place + 1..self.common.len() {
-            let joined = self.request.table[row + self.common[later]] == 1;
+            let SetRequest { table, n, .. } = self.request;
+            let joined = packed::bit(table, *n, self.common[place], self.common[later]);
             if !joined && (self.marks[later] == 0 || self.fault == Fault::MarkedAgain) {
                 self.marks[later] = depth;
             }

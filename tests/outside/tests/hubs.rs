@@ -7,6 +7,7 @@ use outside::graph::{pairs, Graph};
 use outside::groups::{Reference, Settings};
 use outside::kept::Kept;
 use outside::library::{self, DegreesReply, SetRequest};
+use outside::packed::pack;
 use outside::random::Random;
 
 const N: usize = 600;
@@ -79,7 +80,7 @@ fn check_calls(random: &mut Random, kept: &mut Kept, hubs: &[[usize; 5]; 4]) -> 
 fn degrees_of_255_and_256() {
     cases("degrees_of_255_and_256", 2, |random| {
         let (graph, hubs) = hubs(random);
-        let counted = library::degrees(&graph.table, &random.entries(N), N);
+        let counted = library::degrees(&pack(&graph), &random.entries(N), N);
         assert_eq!(counted, DegreesReply { refusal: 0, degrees: graph.degrees() });
         for (&hub, &degree) in hubs.iter().flatten().zip(DEGREES.iter().flatten()) {
             assert_eq!(usize::from(counted.degrees[hub]), degree);
@@ -94,7 +95,7 @@ fn degrees_of_255_and_256() {
         check_calls(random, &mut kept, &hubs);
         kept.turn((pair.1, pair.0));
         assert_eq!([kept.degrees[pair.0], kept.degrees[pair.1]], [255, 511]);
-        assert!(kept.table == graph.table && kept.degrees == graph.degrees());
+        assert!(kept.table == pack(&graph) && kept.degrees == graph.degrees());
         check_calls(random, &mut kept, &hubs);
     });
 }

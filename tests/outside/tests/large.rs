@@ -1,4 +1,5 @@
-//! Graphs of up to 1,024 vertices: sparse ones against the reference, refusals at large n, and huge values of n.
+//! Graphs of up to 1,024 vertices, among them those where a row of the packed table is just full or just not: sparse ones
+//! against the reference, refusals at large n, and huge values of n.
 
 use outside::calls;
 use outside::cases::cases;
@@ -7,6 +8,7 @@ use outside::graph::Graph;
 use outside::groups::{Reference, Settings};
 use outside::library::{self, DegreesReply, Edit, EditAnswer, EditReply, EditRequest};
 use outside::library::{PageAnswer, PageRequest, SetAnswer, SetRequest};
+use outside::packed::{pack, put, row_numbers};
 use outside::random::Random;
 use outside::samples;
 use outside::walk::Walk;
@@ -41,6 +43,17 @@ fn lists_of_60_vertices() {
     cases("lists_of_60_vertices", 8, |random| {
         let (n, c) = (random.between(40, 60), random.between(1, 4) as u32);
         whole_list(random, n, c);
+    });
+}
+
+/// A last number of a row that is full, has one vertex, or lacks one.
+#[test]
+fn lists_where_a_number_of_a_row_ends() {
+    cases("lists_where_a_number_of_a_row_ends", 4, |random| {
+        for n in [63, 64, 65, 127, 128, 129] {
+            let c = random.between(1, 2) as u32;
+            whole_list(random, n, c);
+        }
     });
 }
 
@@ -133,36 +146,72 @@ fn the_widest_record() {
     assert_eq!(enough.answer, PageAnswer { stop: 2, groups: 1, steps: 1025, used: 1027, ..PageAnswer::default() });
 }
 
-/// Refusals 1 to 5 and 42 of every call that takes a graph, at the last byte and the last degree of 1,024 vertices.
+/// Refusals 1, 2, 4, 5 and 42 of every call that takes a graph, at the last bit and the last degree of 1,024 vertices.
 #[test]
 fn refused_graphs_of_1024_vertices() {
     let mut random = Random::new(9);
     check_refused(&mut random, &LentGraph::of(&Graph::empty(1025)), 1);
-    let last = 1024 * 1024 - 1;
-    let spoiled: [(u32, fn(&mut LentGraph, usize)); 8] = [
-        (2, |lent, _| lent.table.push(0)),
-        (2, |lent, last| lent.table.truncate(last)),
-        (3, |lent, last| lent.table[last] = 2),
-        (4, |lent, last| lent.table[last] = 1),
-        (5, |lent, last| lent.table[last - 1] = 1),
-        (42, |lent, _| lent.degrees[1023] = 1),
-        (42, |lent, _| lent.degrees.push(0)),
-        (42, |lent, _| lent.degrees.truncate(1023)),
+    let spoiled: [(u32, fn(&mut LentGraph)); 7] = [
+        (2, |lent| lent.table.push(0)),
+        (2, |lent| lent.table.truncate(1024 * 16 - 1)),
+        (4, |lent| put(&mut lent.table, 1024, 1023, 1023, true)),
+        (5, |lent| put(&mut lent.table, 1024, 1023, 1022, true)),
+        (42, |lent| lent.degrees[1023] = 1),
+        (42, |lent| lent.degrees.push(0)),
+        (42, |lent| lent.degrees.truncate(1023)),
     ];
     for (refusal, spoil) in spoiled {
         let mut lent = LentGraph::of(&Graph::empty(1024));
-        spoil(&mut lent, last);
+        spoil(&mut lent);
         check_refused(&mut random, &lent, refusal);
     }
 }
 
-/// Refusals 2 to 5 and 42 of every call that takes a graph, in row or column 14 or a later one of any graph.
+/// Refusal 45 of every call that takes a graph: of each row, each bit that is no vertex's; where the rows are many, of some
+/// of them.
+#[test]
+fn refused_stray_bits() {
+    cases("refused_stray_bits", 1, |random| {
+        for n in [1, 2, 7, 33, 62, 63, 65, 66, 100, 127, 129, 191, 193, 961, 1022, 1023] {
+            let graph = samples::any(random, n);
+            let some = [0, 1, n / 2, n - 1, random.below(n)];
+            for u in (0..n).filter(|u| n < 130 || some.contains(u)) {
+                for place in n..64 * row_numbers(n) {
+                    let mut lent = LentGraph::of(&graph);
+                    put(&mut lent.table, n, u, place, true);
+                    check_refused(random, &lent, 45);
+                }
+            }
+        }
+    });
+}
+
+/// Every two of the faults 2, 45, 4, 5 and 42 at once, the one that is tested later put in first.
+#[test]
+fn refused_graphs_with_two_faults() {
+    const GRAPH: [u32; 5] = [2, 45, 4, 5, 42];
+    cases("refused_graphs_with_two_faults", 30, |random| {
+        let n = *random.pick(&[15, 63, 65, 127, 129, 300, 1023]);
+        let graph = samples::any(random, n);
+        for later in 0..GRAPH.len() {
+            for told in 0..later {
+                let mut lent = LentGraph::of(&graph);
+                lent.spoil(random, GRAPH[later]);
+                lent.spoil(random, GRAPH[told]);
+                check_refused(random, &lent, GRAPH[told]);
+            }
+        }
+    });
+}
+
+/// Refusals 2, 45, 4, 5 and 42 of every call that takes a graph, in row or column 14 or a later one of any graph.
 #[test]
 fn refused_graphs_of_15_vertices_and_more() {
     cases("refused_graphs_of_15_vertices_and_more", 60, |random| {
         let n = middle_or_large(random);
         let graph = samples::any(random, n);
-        for refusal in [2, 3, 3, 4, 4, 5, 5, 42, 42] {
+        let stray = if n % 64 == 0 { &[][..] } else { &[45, 45] };
+        for &refusal in [2, 4, 4, 5, 5, 42, 42].iter().chain(stray) {
             let mut lent = LentGraph::of(&graph);
             lent.spoil(random, refusal);
             check_refused(random, &lent, refusal);
@@ -223,12 +272,12 @@ fn huge_values_of_n() {
                 let request = EditRequest { n, ..EditRequest::of(&graph, 0, 1) };
                 let unchanged = EditReply {
                     answer: EditAnswer { refusal: 1, unchanged: 0 },
-                    table: graph.table.clone(),
+                    table: pack(&graph),
                     degrees: graph.degrees(),
                 };
                 assert_eq!(library::edit(edit, &request), unchanged, "n {n}");
             }
-            let counted = library::degrees(&graph.table, &[7, 7], n);
+            let counted = library::degrees(&pack(&graph), &[7, 7], n);
             assert_eq!(counted, DegreesReply { refusal: 1, degrees: vec![7, 7] }, "n {n}");
         }
     }

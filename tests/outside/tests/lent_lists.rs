@@ -5,6 +5,7 @@ use outside::cases::cases;
 use outside::faults::{check_refused, middle_or_large, wrong_list, LentGraph};
 use outside::graph::Graph;
 use outside::library::{self, DegreesReply};
+use outside::packed::pack;
 use outside::random::Random;
 use outside::samples;
 
@@ -72,7 +73,7 @@ fn counts_of_the_degrees() {
                 true => DegreesReply { refusal: 0, degrees: graph.degrees() },
                 false => DegreesReply { refusal: 42, degrees: before.clone() },
             };
-            assert_eq!(library::degrees(&graph.table, &before, n), expected, "{graph:?}");
+            assert_eq!(library::degrees(&pack(&graph), &before, n), expected, "{graph:?}");
         }
     });
 }

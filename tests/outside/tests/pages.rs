@@ -5,6 +5,7 @@ use outside::calls;
 use outside::cases::{alone, cases};
 use outside::groups::{FullList, Reference, Settings};
 use outside::library::{self, PageReply, PageRequest};
+use outside::packed::{pack, put, stray_place, turn};
 use outside::random::Random;
 use outside::samples;
 use outside::walk::Walk;
@@ -42,16 +43,19 @@ fn spoil(random: &mut Random, request: &mut PageRequest) {
     match random.below(12) {
         0 => request.n = *random.pick(&[n + 1, 1025, usize::MAX, usize::MAX / 2 + 1, 1 << 32, 1 << 63]),
         1 => request.table.push(0),
-        2 if n > 0 => request.table[random.below(n * n)] = 2,
-        3 if n > 0 => request.table[random.below(n) * (n + 1)] = 1,
-        4 if n > 1 => request.table[n - 1] ^= 1,
+        2 if n > 0 => put(&mut request.table, n, random.below(n), stray_place(random, n).unwrap(), true),
+        3 if n > 0 => {
+            let vertex = random.below(n);
+            put(&mut request.table, n, vertex, vertex, true);
+        }
+        4 if n > 1 => turn(&mut request.table, n, 0, n - 1),
         5 => request.settings.notion = random.between(3, 300) as u32,
         6 => request.settings.c = *random.pick(&[0, 1025, u32::MAX]),
         7 if n > 0 => request.work.truncate(random.below(8 * n)),
         8 => {
             let graph = samples::any(random, n + 1);
             request.n = n + 1;
-            (request.degrees, request.table) = (graph.degrees(), graph.table);
+            (request.degrees, request.table) = (graph.degrees(), pack(&graph));
         }
         9 if n > 0 => request.degrees[random.below(n)] ^= 1,
         10 => request.degrees.push(0),

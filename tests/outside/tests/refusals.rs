@@ -1,17 +1,18 @@
-//! Every refusal of page, set query, edits and the count of the degrees, and every two faults at once: the one that
-//! document 01 tests first is told, all other numbers are 0, and all lent memory is as it was.
+//! Every refusal of page, set query, edits, the count of the degrees and the packing, and every two faults at once: the one
+//! that document 01 tests first is told, all other numbers are 0, and all lent memory is as it was.
 
 use outside::calls;
 use outside::cases::cases;
 use outside::groups::{Reference, Settings};
 use outside::library::{self, Edit, EditAnswer, EditReply, EditRequest};
-use outside::library::{PageAnswer, PageRequest, SetAnswer, SetRequest};
+use outside::library::{PackReply, PageAnswer, PageRequest, SetAnswer, SetRequest};
+use outside::packed::{pack, put, row_numbers, turn};
 use outside::random::Random;
 use outside::samples;
 
 // In the order in which they are tested.
-const PAGE: [u32; 14] = [1, 2, 3, 4, 5, 42, 6, 7, 8, 9, 10, 21, 22, 23];
-const SET: [u32; 12] = [1, 2, 3, 4, 5, 42, 6, 7, 8, 9, 10, 11];
+const PAGE: [u32; 14] = [1, 2, 45, 4, 5, 42, 6, 7, 8, 9, 10, 21, 22, 23];
+const SET: [u32; 12] = [1, 2, 45, 4, 5, 42, 6, 7, 8, 9, 10, 11];
 
 /// The claw, at a position that the walk comes by, with random settings and memory.
 fn sound_page(random: &mut Random) -> PageRequest {
@@ -54,7 +55,7 @@ fn put_page_fault(random: &mut Random, request: &mut PageRequest, number: u32) {
 
 /// What page and set query are both lent; the marks are the position or the set.
 struct Common<'a> {
-    table: &'a mut Vec<u8>,
+    table: &'a mut Vec<u64>,
     degrees: &'a mut Vec<u16>,
     marks: &'a mut Vec<u8>,
     work: &'a mut Vec<u16>,
@@ -62,7 +63,7 @@ struct Common<'a> {
     settings: &'a mut Settings,
 }
 
-/// The faults 1 to 10 and 42, which page and set query share.
+/// The faults 1, 2, 45, 4, 5, 42 and 6 to 10, which page and set query share.
 fn put_common_fault(random: &mut Random, common: Common, number: u32) {
     let Common { table, degrees, marks, work, n, settings } = common;
     match number {
@@ -75,17 +76,23 @@ fn put_common_fault(random: &mut Random, common: Common, number: u32) {
     }
 }
 
-/// The faults 1 to 5 and 42 of the claw, which all calls that take a graph share.
-fn put_graph_fault(random: &mut Random, table: &mut Vec<u8>, degrees: &mut Vec<u16>, n: &mut usize, number: u32) {
+/// The faults 1, 2, 45, 4, 5 and 42 of the claw, which all calls that take a graph share.
+fn put_graph_fault(random: &mut Random, table: &mut Vec<u64>, degrees: &mut Vec<u16>, n: &mut usize, number: u32) {
     match number {
-        1 => *n = *random.pick(&[1025, 1026, 65536, 1 << 32, (1 << 32) + 4, 1 << 63, usize::MAX]),
+        1 => *n = too_many(random),
         2 => longer_or_shorter(random, table),
-        3 => table[random.below(9)] = random.between(2, 255) as u8,
-        4 => table[10] = 1,
-        5 => table[if random.percent(50) { 11 } else { 14 }] = 1,
+        45 => put(table, 4, random.below(4), random.between(4, 63), true),
+        4 => put(table, 4, 2, 2, true),
+        5 if random.percent(50) => put(table, 4, 2, 3, true),
+        5 => put(table, 4, 3, 2, true),
         42 => spoil_degrees(random, degrees),
         _ => unreachable!(),
     }
+}
+
+/// More vertices than 1,024.
+fn too_many(random: &mut Random) -> usize {
+    *random.pick(&[1025, 1026, 65536, 1 << 32, (1 << 32) + 4, 1 << 63, usize::MAX])
 }
 
 /// One entry more or less.
@@ -169,7 +176,7 @@ fn a_gap_before_a_dead_position() {
     let mut request = sound_page(&mut random);
     let graph = samples::star(5);
     request.n = 6;
-    (request.degrees, request.table) = (graph.degrees(), graph.table);
+    (request.degrees, request.table) = (graph.degrees(), pack(&graph));
     request.work = random.entries(48);
     request.position = vec![1, 1, 2, 0, 0, 1];
     check_page(&request, 22);
@@ -187,7 +194,7 @@ fn a_position_dead_by_left_neighbours() {
     for c in 1..=4 {
         let mut request = sound_page(&mut random);
         request.n = 6;
-        (request.degrees, request.table) = (graph.degrees(), graph.table.clone());
+        (request.degrees, request.table) = (graph.degrees(), pack(&graph));
         request.work = random.entries(48);
         request.settings.c = c as u32;
         for left in 0..=4 {
@@ -273,7 +280,7 @@ fn put_edit_fault(random: &mut Random, request: &mut EditRequest, number: u32) {
 
 #[test]
 fn edits_with_one_and_two_faults() {
-    const EDIT: [u32; 8] = [1, 2, 3, 4, 5, 42, 43, 44];
+    const EDIT: [u32; 8] = [1, 2, 45, 4, 5, 42, 43, 44];
     cases("edits_with_one_and_two_faults", 100, |random| {
         for first in 0..EDIT.len() {
             for second in 0..EDIT.len() {
@@ -297,11 +304,11 @@ fn edits_with_one_and_two_faults() {
 /// Of the list its length alone can be wrong.
 #[test]
 fn counts_of_the_degrees_with_one_and_two_faults() {
-    const COUNT: [u32; 6] = [1, 2, 3, 4, 5, 42];
+    const COUNT: [u32; 6] = [1, 2, 45, 4, 5, 42];
     cases("counts_of_the_degrees_with_one_and_two_faults", 100, |random| {
         for first in 0..COUNT.len() {
             for second in 0..COUNT.len() {
-                let mut table = samples::claw().table;
+                let mut table = pack(&samples::claw());
                 let (mut degrees, mut n) = (random.entries(4), 4);
                 let (faults, refusal) = faults(&COUNT, first, second);
                 for number in faults {
@@ -318,7 +325,63 @@ fn counts_of_the_degrees_with_one_and_two_faults() {
     });
 }
 
-/// Exact limits: lengths one short, right and one long; each byte of a small table made 2 in turn.
+/// Of the packed slice its length alone can be wrong.
+#[test]
+fn packings_with_one_and_two_faults() {
+    const PACK: [u32; 5] = [1, 2, 3, 4, 5];
+    cases("packings_with_one_and_two_faults", 200, |random| {
+        for first in 0..PACK.len() {
+            for second in 0..PACK.len() {
+                let mut bytes = samples::claw().table;
+                let (mut packed, mut n) = (random.numbers(4), 4);
+                let (faults, refusal) = faults(&PACK, first, second);
+                for number in faults {
+                    match number {
+                        1 => n = too_many(random),
+                        2 if random.percent(50) => longer_or_shorter(random, &mut bytes),
+                        2 => longer_or_shorter(random, &mut packed),
+                        3 => bytes[random.below(9)] = random.between(2, 255) as u8,
+                        4 => bytes[10] = 1,
+                        5 => bytes[if random.percent(50) { 11 } else { 14 }] = 1,
+                        _ => unreachable!(),
+                    }
+                }
+                let found = library::pack(&bytes, &packed, n);
+                assert_eq!(found, calls::pack(&bytes, &packed, n), "{n} {bytes:?} into {} numbers", packed.len());
+                assert_eq!(found, PackReply { refusal, packed }, "{n} {bytes:?}");
+            }
+        }
+    });
+}
+
+/// Both lengths one short, right and one long; each byte of a small byte table made another in turn.
+#[test]
+fn limits_of_a_packing() {
+    let mut random = Random::new(6);
+    for n in 0..=5usize {
+        let graph = samples::any(&mut random, n);
+        for lengths in 0..9 {
+            let [bytes, packed] =
+                [(n * n, 1), (n * row_numbers(n), 3)].map(|(right, place)| right + lengths / place % 3);
+            if bytes > 0 && packed > 0 {
+                let mut table = graph.table.clone();
+                table.resize(bytes - 1, 0);
+                let before = random.numbers(packed - 1);
+                assert_eq!(library::pack(&table, &before, n), calls::pack(&table, &before, n), "{graph:?}");
+            }
+        }
+        for place in 0..n * n {
+            for byte in 0..=255 {
+                let mut table = graph.table.clone();
+                table[place] = byte;
+                let before = random.numbers(n * row_numbers(n));
+                assert_eq!(library::pack(&table, &before, n), calls::pack(&table, &before, n), "{n} {table:?}");
+            }
+        }
+    }
+}
+
+/// Exact limits: lengths one short, right and one long; each bit of a small table turned in turn.
 #[test]
 fn limits() {
     let mut random = Random::new(5);
@@ -327,8 +390,8 @@ fn limits() {
         let settings = Settings { notion: 2, kind: 0, c: 2 };
         let list = Reference::of(graph.clone()).full_list(settings);
         for lengths in 0..81 {
-            let [table, degrees, position, work] =
-                [(n * n, 1), (n, 3), (n, 9), (8 * n, 27)].map(|(right, place)| right + lengths / place % 3);
+            let [table, degrees, position, work] = [(n * row_numbers(n), 1), (n, 3), (n, 9), (8 * n, 27)]
+                .map(|(right, place)| right + lengths / place % 3);
             if [table, degrees, position, work].contains(&0) {
                 continue;
             }
@@ -339,14 +402,11 @@ fn limits() {
             request.work.resize(work - 1, 0);
             assert_eq!(library::page(&request), calls::page(&request, &list), "{request:?}");
         }
-        for place in 0..n * n {
-            for byte in [1, 2, 3, 128, 129, 254, 255] {
-                let mut request = PageRequest::fresh(&mut random, &graph, settings, 30, 1000);
-                request.table[place] = byte;
-                if let Some(refusal) = calls::page_refusal(&request) {
-                    check_page(&request, refusal);
-                }
-            }
+        for (u, place) in (0..n).flat_map(|u| (0..64).map(move |place| (u, place))) {
+            let mut request = PageRequest::fresh(&mut random, &graph, settings, 30, 1000);
+            turn(&mut request.table, n, u, place);
+            let refusal = calls::page_refusal(&request).expect("one bit alone is a fault");
+            check_page(&request, refusal);
         }
     }
 }

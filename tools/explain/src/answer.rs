@@ -42,7 +42,7 @@ pub fn answer(
         Ok(set) => set,
         Err(message) => return no_answer(message),
     };
-    let graph = Graph::of_table(read.table(), n);
+    let graph = Graph::of(n, |u, v| read.is_joined(u, v));
     let reason = reason(&graph, &set, settings);
     let explained = sentences(&graph, &set, settings, &reason);
     let bytes: Vec<u8> = (0..n).map(|v| set.has(v).into()).collect();

@@ -76,10 +76,10 @@ pub struct Graph {
 }
 
 impl Graph {
-    /// The graph of a table of n × n bytes, row by row, 1 where two vertices are joined.
+    /// The graph of n vertices of which `joined` says whether two are joined.
     #[must_use]
-    pub fn of_table(table: &[u8], n: usize) -> Graph {
-        let row = |u: usize| Set::of(&(0..n).filter(|v| table[u * n + v] == 1).collect::<Vec<usize>>());
+    pub fn of(n: usize, joined: impl Fn(usize, usize) -> bool) -> Graph {
+        let row = |u: usize| Set::of(&(0..n).filter(|&v| joined(u, v)).collect::<Vec<usize>>());
         Graph { neighbours: (0..n).map(row).collect() }
     }
 

@@ -4,26 +4,27 @@
 use explain::{outside_counts, reason, Counts, Graph, Reason, Set};
 use isolated::{set_query, work_entries, Groups, Kind, Notion, Room, Settings};
 use outside::random::Random;
-use outside::samples;
+use outside::{packed, samples};
 
-/// A graph to try, with a work slice for the library.
+/// A graph to try, as the library is lent it and as the explanation has it, with a work slice for the library.
 struct Tried {
     n: usize,
-    table: Vec<u8>,
+    sample: outside::graph::Graph,
+    table: Vec<u64>,
     degrees: Vec<u16>,
     graph: Graph,
     work: Vec<u16>,
 }
 
 impl Tried {
-    fn new(sample: &outside::graph::Graph) -> Tried {
-        let (n, table, degrees) = (sample.n, sample.table.clone(), sample.degrees());
-        let graph = Graph::of_table(&table, n);
-        Tried { n, table, degrees, graph, work: vec![0; work_entries(n)] }
+    fn new(sample: outside::graph::Graph) -> Tried {
+        let (n, table, degrees) = (sample.n, packed::pack(&sample), sample.degrees());
+        let graph = Graph::of(n, |u, v| sample.joined(u, v));
+        Tried { n, sample, table, degrees, graph, work: vec![0; work_entries(n)] }
     }
 
     fn joined(&self, u: usize, v: usize) -> bool {
-        self.table[u * self.n + v] == 1
+        self.sample.joined(u, v)
     }
 
     fn clique(&self, set: &[usize]) -> bool {
@@ -59,7 +60,7 @@ impl Tried {
     fn check(&mut self, set: &[usize], settings: Settings) -> Reason {
         let reason = reason(&self.graph, &Set::of(set), settings);
         let verdict = set_query(&self.table, &self.degrees, &self.bytes(set), &mut self.work, self.n, settings);
-        let shown = || format!("{set:?} with {settings} in {:?} is {reason:?}", self.table);
+        let shown = || format!("{set:?} with {settings} in {:?} is {reason:?}", self.sample);
         assert_eq!(verdict, Ok(reason.listed()), "{}", shown());
         let so = match &reason {
             Reason::Empty => set.is_empty(),
@@ -100,7 +101,7 @@ fn all_settings(factors: impl IntoIterator<Item = u32>) -> Vec<Settings> {
 fn all_sets_of_all_small_graphs() {
     for n in 0..=5 {
         for sample in samples::all(n) {
-            let mut tried = Tried::new(&sample);
+            let mut tried = Tried::new(sample);
             for settings in all_settings(1..=5) {
                 for bits in 0..1 << n {
                     tried.check(&tried.of_bits(bits), settings);
@@ -116,7 +117,7 @@ fn all_sets_of_random_graphs() {
     let mut told = [0; 5];
     for _ in 0..60 {
         let n = random.between(6, 9);
-        let mut tried = Tried::new(&samples::any(&mut random, n));
+        let mut tried = Tried::new(samples::any(&mut random, n));
         for settings in all_settings([1, 2, 3, 4, 6, 1024]) {
             for bits in 0..1 << n {
                 let place = match tried.check(&tried.of_bits(bits), settings) {
@@ -153,7 +154,7 @@ fn cliques_that_lack_several_members() {
     let mut added = [0; 8];
     for _ in 0..200 {
         let members = random.between(3, 7);
-        let mut tried = Tried::new(&crowned(&mut random, members));
+        let mut tried = Tried::new(crowned(&mut random, members));
         for settings in all_settings(2..=8) {
             for bits in 1..1 << members {
                 let set = tried.of_bits(bits);
@@ -174,7 +175,7 @@ fn cliques_of_dense_graphs() {
     let mut random = Random::new(14);
     for _ in 0..20 {
         let n = random.between(10, 13);
-        let mut tried = Tried::new(&samples::dense(&mut random, n));
+        let mut tried = Tried::new(samples::dense(&mut random, n));
         for settings in all_settings([2, 5, 9]) {
             for bits in 1..1 << n {
                 let set = tried.of_bits(bits);
@@ -190,7 +191,7 @@ fn cliques_of_dense_graphs() {
 #[test]
 fn sets_of_a_large_graph() {
     let mut random = Random::new(13);
-    let mut tried = Tried::new(&samples::scattered(&mut random, 1024));
+    let mut tried = Tried::new(samples::scattered(&mut random, 1024));
     let (table, degrees) = (tried.table.clone(), tried.degrees.clone());
     let mut room = Room::new(1024);
     for settings in all_settings([1, 2, 4]) {
@@ -214,7 +215,7 @@ fn sets_of_a_large_graph() {
 /// A complete graph of 1,024 vertices: the longest counts, and a search that adds all.
 #[test]
 fn sets_of_the_largest_complete_graph() {
-    let mut tried = Tried::new(&samples::complete(1024));
+    let mut tried = Tried::new(samples::complete(1024));
     for settings in all_settings([1, 500, 1024]) {
         for size in [1, 2, 1023, 1024] {
             tried.check(&(1024 - size..1024).collect::<Vec<usize>>(), settings);

@@ -18,7 +18,7 @@ accepted c = can_edit (sym c.in_ok-lent.ensures.refused)
 other : (c : Else-joined-joins) → let g = c.args in beq ((graph_of g.n g.table.now).joined g.u g.v) g.joins ≡ false
 other c =
     let h = c.in_ok-lent.ensures.held.table in
-    rw (c.joined.ensures, h.vertices, h.bytes) at c.if-joined-joins.false
+    rw (c.joined.ensures, h.vertices, h.numbers) at c.if-joined-joins.false
 
 pub returns-in_err-lent : goal.returns-in_err-lent
 returns-in_err-lent c = replies-refused _ _ c.from_residual.ensures.1 c.in_err-lent.ensures.refused
@@ -33,7 +33,7 @@ pub returns-then-joined-joins : goal.returns-then-joined-joins
 returns-then-joined-joins c =
     let h = c.in_ok-lent.ensures.held.table in
     let a = accepted (goal.at.returns-then-joined-joins c).In_ok-lent in
-    replies-same a.passes (rw (c.joined.ensures, h.vertices, h.bytes) at c.if-joined-joins.true)
+    replies-same a.passes (rw (c.joined.ensures, h.vertices, h.numbers) at c.if-joined-joins.true)
 
 pub write_pair-requires : goal.write_pair-requires
 write_pair-requires c = can_write (accepted (goal.at.write_pair-requires c).In_ok-lent)
@@ -51,4 +51,4 @@ move_degree-requires-2 c =
 pub returns : goal.returns
 returns c =
     let at = goal.at.returns c in
-    replies-done (accepted at.In_ok-lent).passes (other at.Else-joined-joins) (rw c.from.ensures at c.write_pair.ensures) c.move_degree.ensures c.move_degree-2.ensures
+    replies-done (accepted at.In_ok-lent).passes (other at.Else-joined-joins) c.write_pair.ensures c.move_degree.ensures c.move_degree-2.ensures

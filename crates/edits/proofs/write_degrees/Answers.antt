@@ -16,4 +16,4 @@ returns-then-degrees-n c = lists_other-length c.in_ok-table.ensures.refused (λ 
 pub returns : goal.returns
 returns c =
     let t = c.in_ok-table in
-    lists_done t.ensures.refused (omega (arith, c.if-degrees-n.false)) (rw (t.ensures.held.vertices, t.ensures.held.bytes) at c.fill_degrees.ensures)
+    lists_done t.ensures.refused (omega (arith, c.if-degrees-n.false)) (rw (t.ensures.held.vertices, t.ensures.held.numbers) at c.fill_degrees.ensures)

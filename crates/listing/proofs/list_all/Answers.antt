@@ -6,7 +6,7 @@ use Rattle.listing.proofs.PageByPage.{used-fits, paged_none, turned_cut, turned_
 use Rattle.listing.proofs.list_all.Goals as goal
 
 pub loop-settings-init : goal.loop-settings-init
-loop-settings-init g c = paged_none c.requires.start
+loop-settings-init g c = paged_none _ _ c.requires.start
 
 -- the used entries of a page are within the output
 pub print_page-requires-clause-used : goal.print_page-requires-clause-used

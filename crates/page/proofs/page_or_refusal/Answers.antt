@@ -48,7 +48,7 @@ module _ (c : After-new-ranked) where
 
   -- its graph is the one that is lent
   graph-is : ranked_graph c.new-ranked.result ≡ graph_of c.args.n c.args.table.now
-  graph-is = let h = c.in_ok-lent.ensures.held.graph.table in rw (c.new-ranked.ensures, h.vertices, h.bytes) refl
+  graph-is = let h = c.in_ok-lent.ensures.held.graph.table in rw (c.new-ranked.ensures, h.vertices, h.numbers) refl
 
   -- and its criterion stands for its settings
   settings-are : settings_in c.in_ok-lent.q ≡ settings_of c.args.s

@@ -9,4 +9,4 @@ returns-in_err-lent c = answer-refused _ _ c.from_residual.ensures.1 c.in_err-le
 pub returns : goal.returns
 returns c =
     let h = c.in_ok-lent.ensures.held in
-    answer-decided c.in_ok-lent.ensures.refused (rw (h.graph.table.vertices, h.graph.table.bytes, h.settings) at c.set_qualifies.ensures)
+    answer-decided c.in_ok-lent.ensures.refused (rw (h.graph.table.vertices, h.graph.table.numbers, h.settings) at c.set_qualifies.ensures)

@@ -3,14 +3,14 @@
 use Prim.Native.Nat.{ℕ, zero, suc, ◌+◌, ◌*◌, ◌≤◌, ◌<◌, zero-le}
 use mathlib.Core.Path.{◌≡◌, refl, sym, ap, ◌∙◌}
 use mathlib.Core.Bool.{Bool, true, false, ◌&&◌, not, cond, true≢false, and-true, and-false}
-use mathlib.Core.Logic.{◌≢◌}
-use native.Mathlib.Nat.{not-suc-le-zero, lt-suc_self, le-suc, le_trans, le_of_eq, ne_of_lt, mul-zero, mul-suc, suc-mul, zero-add}
+use mathlib.Core.Logic.{◌≢◌, ⊎_elim}
+use native.Mathlib.Nat.{not-suc-le-zero, lt-suc_self, le-suc, le_trans, le_of_eq, ne_of_lt, mul-zero, mul-suc, suc-mul, zero-add, add-zero, add-suc}
 use native.Mathlib.Numerals.{one-add}
 use native.Mathlib.Omega.{arith}
 use lib.Dec.{eqb}
 use borrow.Author.Tests.{eq-eqb, ne_eqb}
 use Rattle.model.specs.Below.{bit, count, total, least}
-use Rattle.theory.proofs.Basics.Tests.{test_and, test_self, test_not, test_eq, count_same, last_or_below}
+use Rattle.theory.proofs.Basics.Tests.{test_and, test_self, test_not, test_eq, count_same, count_none, last_or_below, lt_or_ge}
 
 -- q without v
 abbrev but : (ℕ → Bool) → ℕ → ℕ → Bool
@@ -99,6 +99,31 @@ pub count-all : (n : ℕ) → count n (λ i. true) ≡ n
 unfolding count
 count-all zero = refl
 count-all (suc n) = let k = count-all n in omega arith
+
+-- the numbers below m, and the n after them
+count-add : (m n : ℕ) (p : ℕ → Bool) → count (m + n) p ≡ count m p + count n (λ i. p (m + i))
+unfolding count
+count-add m zero p = rw (add-zero m) (omega arith)
+count-add m (suc n) p = rw (add-suc m n) (omega (arith, count-add m n p))
+
+-- what never passes adds nothing
+pub count_past : (m n : ℕ) (p : ℕ → Bool) → m ≤ n → ((i : ℕ) → m ≤ i → i < n → p i ≡ false) → count n p ≡ count m p
+unfolding count
+count_past m zero p h f = let e : m ≡ 0 = omega arith in ap (λ k. count k p) (sym e)
+count_past m (suc n) p h f =
+    ⊎_elim
+    (λ l.
+    let a : bit (p n) ≡ 0 = ap bit (f n (omega arith) (omega arith)) in
+    let b = count_past m n p (omega arith) (λ i g k. f i g (omega arith)) in
+    omega arith)
+    (λ g. let e : m ≡ suc n = omega arith in ap (λ k. count k p) (sym e))
+    (lt_or_ge m (suc n))
+
+-- a count over b blocks of w numbers, block by block
+pub count_blocks : (w b : ℕ) (p : ℕ → Bool) → count (w * b) p ≡ total b (λ j. count w (λ k. p (w * j + k)))
+unfolding total
+count_blocks w zero p = ap (λ k. count k p) (mul-zero w) ∙ count_none p
+count_blocks w (suc b) p = rw (mul-suc w b) (count-add (w * b) w p ∙ omega (arith, count_blocks w b p))
 
 -- what passes p splits into what passes b too and what does not
 pub count_split : (n : ℕ) (p b : ℕ → Bool) → count n p ≡ count n (λ i. p i && b i) + count n (λ i. p i && not (b i))

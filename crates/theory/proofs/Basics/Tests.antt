@@ -265,6 +265,10 @@ pub passes_or_fails : (a : Bool) → (a ≡ true) ⊎ (a ≡ false)
 passes_or_fails true = inl refl
 passes_or_fails false = inr refl
 
+-- what a test says holds or does not
+pub holds_or_not : {b : Bool} {P : Type 0} → Test b P → P ⊎ (P → ⊥)
+holds_or_not {b} t = ⊎_elim (λ e. inl (t.0 e)) (λ e. inr (λ h. true≢false (sym (t.1 h) ∙ e))) (passes_or_fails b)
+
 -- the test whether two outcomes are one
 pub beq_true : (a b : Bool) → beq a b ≡ true → a ≡ b
 beq_true true true e = refl

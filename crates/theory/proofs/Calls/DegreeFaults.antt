@@ -8,15 +8,15 @@ use mathlib.Core.List.{List, ◌++◌}
 use native.Mathlib.Omega.{arith}
 use lib.ListN.{length, get_or}
 use lib.Dec.{eqb}
-use Rattle.model.specs.Graph.{Graph, LentGraph, by_table, degree, degree_list}
-use Rattle.model.specs.Calls.{byte_table, refuse_degrees, with_degrees}
+use Rattle.model.specs.Graph.{Graph, LentGraph, by_packed, degree, degree_list}
+use Rattle.model.specs.Calls.{packed_table, refuse_degrees, with_degrees}
 use Rattle.model.specs.Fault.{Fault, FirstFault, NoFault}
 use Rattle.model.specs.Faults.{degrees_faults, Lends}
 use Rattle.theory.proofs.Basics.Tests.{test_not, test_or, test_eq, test_any, not-different}
 use Rattle.theory.proofs.Basics.Refusals.{else_none, else_passed}
 use Rattle.theory.proofs.Graph.DegreeList.{degree_list-length, degree_list_at, degree_list-only}
 use Rattle.theory.proofs.Calls.Fault.{refuse-first, none_found, first-none, first_else, numbers_both}
-use Rattle.theory.proofs.Calls.TableFaults.{table-once}
+use Rattle.theory.proofs.Calls.PackedFaults.{packed-once}
 
 module _ (G : Graph) (d : List ℕ) where
   -- the number of a list is that of its fault
@@ -64,10 +64,10 @@ with_degrees_iff L d = (
   λ h. else_none h.0 _ ∙ (degrees-accepted L.graph d).1 h.1,
 )
 
--- A graph has one table and one list that pass 1 to 5 and 42.
-pub lent-once : (n : ℕ) (t d s e : List ℕ) → (with_degrees (byte_table n t) d).fault ≡ 0 → (with_degrees (byte_table n s) e).fault ≡ 0 → by_table n t ≡ by_table n s
-    → (t ≡ s) × (d ≡ e)
+-- A graph has one packed table and one list that pass 1, 2, 45, 4, 5 and 42.
+pub lent-once : (n : ℕ) (t d s e : List ℕ) → (with_degrees (packed_table n t) d).fault ≡ 0 → (with_degrees (packed_table n s) e).fault ≡ 0
+    → by_packed n t ≡ by_packed n s → (t ≡ s) × (d ≡ e)
 lent-once n t d s e p q same =
-    let a = (with_degrees_iff (byte_table n t) d).0 p in
-    let b = (with_degrees_iff (byte_table n s) e).0 q in
-    (table-once n t s a.0 b.0 same, a.1 ∙ ap degree_list same ∙ sym b.1)
+    let a = (with_degrees_iff (packed_table n t) d).0 p in
+    let b = (with_degrees_iff (packed_table n s) e).0 q in
+    (packed-once n t s a.0 b.0 same, a.1 ∙ ap degree_list same ∙ sym b.1)

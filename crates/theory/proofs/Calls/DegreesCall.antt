@@ -12,7 +12,7 @@ use borrow.Author.Tests.{eqb-true, eq-eqb, not-false}
 use Rattle.model.specs.Graph.{LentGraph, degree_list}
 use Rattle.model.specs.Calls.{with_degrees}
 use Rattle.model.specs.Fault.{Fault, FirstFault, NoFault}
-use Rattle.model.specs.Faults.{numbers_of, table_faults, Lends}
+use Rattle.model.specs.Faults.{numbers_of, packed_faults, Lends}
 use Rattle.model.specs.Edits.{refuse_list, DegreesReply, degrees_reply, degrees_to, list_faults}
 use Rattle.theory.proofs.Basics.Tests.{test_not, test_eq}
 use Rattle.theory.proofs.Basics.Refusals.{refuse_pass, refuse_on, else_none, else_passed}
@@ -68,5 +68,5 @@ module _ {faults : List Fault} {L : LentGraph} (form : Lends faults L) (d : List
   list-accepted_iff = first-none (list_faults faults L.graph.size d) (refuse_list L d) (numbers_both faults _ form.numbers (omega arith)) list-first
 
 -- 42 comes after 5 here too
-pub list-order : (n : ℕ) (t d : List ℕ) → numbers_of (list_faults (table_faults n t) n d) ≡ (1 ∷ 2 ∷ 3 ∷ 4 ∷ 5 ∷ 42 ∷ [])
+pub list-order : (n : ℕ) (t d : List ℕ) → numbers_of (list_faults (packed_faults n t) n d) ≡ (1 ∷ 2 ∷ 45 ∷ 4 ∷ 5 ∷ 42 ∷ [])
 list-order n t d = refl

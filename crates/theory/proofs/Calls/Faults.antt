@@ -8,14 +8,14 @@ use mathlib.Core.List.{List, [], ◌∷◌, ◌++◌}
 use native.Mathlib.Omega.{arith}
 use lib.ListN.{length, get_or}
 use borrow.Author.Tests.{eqb-true}
-use Rattle.model.specs.Graph.{LentGraph, by_table}
+use Rattle.model.specs.Graph.{LentGraph, by_packed}
 use Rattle.model.specs.Groups.{Settings, qualifies}
 use Rattle.model.specs.Meaning.{Clique, Qualifies, Symmetric}
 use Rattle.model.specs.Walk.{Position, Page, page}
 use Rattle.model.specs.Listing.{rules}
 use Rattle.model.specs.Calls.{Call, or_else, refuse_settings, refuse_lengths, refuse_input, refuse_position, refuse_page, reply_of, reply_to, by_bytes, refuse_query, query_reply, answer_to}
 use Rattle.model.specs.Fault.{Fault, FirstFault, NoFault}
-use Rattle.model.specs.Faults.{numbers_of, table_faults, degrees_faults, settings_faults, length_faults, position_faults, Lends, page_faults, query_faults, turned_back, said_no}
+use Rattle.model.specs.Faults.{numbers_of, packed_faults, degrees_faults, settings_faults, length_faults, position_faults, Lends, page_faults, query_faults, turned_back, said_no}
 use Rattle.theory.proofs.Basics.Tests.{test_not, test_lt, test_or, test_eq, not-different, fails}
 use Rattle.theory.proofs.Basics.Refusals.{else_assoc}
 pub use Rattle.theory.proofs.Calls.Fault.{first-once}
@@ -125,16 +125,16 @@ module _ {faults : List Fault} (c : Call) (form : Lends faults c.lent) (p : Posi
       ((page-accepted_iff form c.settings p c.work).1 f)
 
 module _ (n : ℕ) (t d : List ℕ) (s : Settings) (p : List ℕ) (work : ℕ) where
-  -- document 01 checks the lowest number first, and document 02, C-12, has 42 right after 5
+  -- document 01 checks the lowest number first; document 02, C-15, has 45 in the place of 3, and C-12 has 42 right after 5
   pub page-order :
-      numbers_of (page_faults (table_faults n t ++ degrees_faults (by_table n t) d) (by_table n t) s p work)
-      ≡ (1 ∷ 2 ∷ 3 ∷ 4 ∷ 5 ∷ 42 ∷ 6 ∷ 7 ∷ 8 ∷ 9 ∷ 10 ∷ 21 ∷ 22 ∷ 23 ∷ [])
+      numbers_of (page_faults (packed_faults n t ++ degrees_faults (by_packed n t) d) (by_packed n t) s p work)
+      ≡ (1 ∷ 2 ∷ 45 ∷ 4 ∷ 5 ∷ 42 ∷ 6 ∷ 7 ∷ 8 ∷ 9 ∷ 10 ∷ 21 ∷ 22 ∷ 23 ∷ [])
   page-order = refl
 
   -- and so for the set query
   pub query-order :
-      numbers_of (query_faults (table_faults n t ++ degrees_faults (by_table n t) d) (by_table n t) s p work)
-      ≡ (1 ∷ 2 ∷ 3 ∷ 4 ∷ 5 ∷ 42 ∷ 6 ∷ 7 ∷ 8 ∷ 9 ∷ 10 ∷ 11 ∷ [])
+      numbers_of (query_faults (packed_faults n t ++ degrees_faults (by_packed n t) d) (by_packed n t) s p work)
+      ≡ (1 ∷ 2 ∷ 45 ∷ 4 ∷ 5 ∷ 42 ∷ 6 ∷ 7 ∷ 8 ∷ 9 ∷ 10 ∷ 11 ∷ [])
   query-order = refl
 
 -- the empty set is a no

@@ -26,6 +26,11 @@ module _ (f : ℕ → ℕ) where
       (λ k l. get_or-append (listed n f) (f n ∷ []) 0 k (rw (length-listed n) l) ∙ listed_at n k l)
       (get_or_at (listed n f) (f n) [] 0 n (length-listed n)) i (omega arith)
 
+  -- a list that is so is this one
+  pub listed-only : (n : ℕ) (d : List ℕ) → length d ≡ n → ((i : ℕ) → i < n → get_or d i 0 ≡ f i) → d ≡ listed n f
+  listed-only n d long at =
+      ext_get_or 0 d (listed n f) (long ∙ sym (length-listed n)) (λ i h. let l : i < n = omega arith in at i l ∙ sym (listed_at n i l))
+
 -- ---- the degrees
 
 module _ (G : Graph) where
@@ -39,5 +44,4 @@ module _ (G : Graph) where
 
   -- and a list that is so is this one
   pub degree_list-only : (d : List ℕ) → length d ≡ G.size → ((v : ℕ) → v < G.size → get_or d v 0 ≡ degree G v) → d ≡ degree_list G
-  degree_list-only d long at =
-      ext_get_or 0 d (degree_list G) (long ∙ sym degree_list-length) (λ v h. let l : v < G.size = omega arith in at v l ∙ sym (degree_list_at v l))
+  degree_list-only = listed-only (degree G) G.size

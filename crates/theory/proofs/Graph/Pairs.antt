@@ -1,20 +1,21 @@
 -- A pair of vertices that is joined or parted: the table with both its bytes written, the graph that is another but for the pair, and its degrees.
 -- Assumes nothing.
-use Prim.Native.Nat.{ℕ, zero, suc, ◌+◌, ◌*◌, ◌<◌}
-use mathlib.Core.Path.{◌≡◌, refl, sym, ap, ◌∙◌, subst}
+use Prim.Native.Nat.{ℕ, zero, suc, ◌+◌, ◌*◌, ◌≤◌, ◌<◌}
+use mathlib.Core.Path.{◌≡◌, refl, sym, ap, ap₂, ◌∙◌, subst}
 use mathlib.Core.Bool.{Bool, true, false, not}
-use mathlib.Core.Logic.{◌≢◌, ◌⊎◌, inl, inr}
+use mathlib.Core.Logic.{◌≢◌, ◌⊎◌, inl, inr, ⊎_elim}
 use mathlib.Core.List.{List, [], ◌∷◌}
 use native.Mathlib.Omega.{arith}
 use lib.ListN.{length, get_or, set, length-set}
-use lib.Seq.{get_or-set_same, get_or-set_other, ext_get_or}
+use lib.Seq.{get_or-set_same, get_or-set_other}
 use lib.Dec.{eqb}
 use Rattle.model.specs.Below.{bit, count}
 use Rattle.model.specs.Graph.{Graph, by_table, with_pair, degree, degree_list}
+use Rattle.model.specs.Meaning.{Simple}
 use Rattle.model.specs.Edits.{moved, recount, ButFor}
-use Rattle.theory.proofs.Basics.Tests.{test_agree, count_same, one_of_two, bit-one}
+use Rattle.theory.proofs.Basics.Tests.{test_and, test_eq, test_agree, count_same, one_of_two, holds_or_not, bit-one}
 use Rattle.theory.proofs.Basics.Counting.{count_but}
-use Rattle.theory.proofs.Graph.Table.{joined_at, joined_test, cell_one, cell_turned, cell_within}
+use Rattle.theory.proofs.Graph.Table.{joined_at, joined_test, cell_one, cell_within}
 use Rattle.theory.proofs.Graph.DegreeList.{degree_list-length, degree_list_at, degree_list-only}
 
 -- ---- the table with x in both bytes of a pair
@@ -30,30 +31,12 @@ module _ (x n u v : ℕ) (t : List ℕ) where
   unfolding with_pair
   pair_others i d e = get_or-set_other (set t (u * n + v) x) (v * n + u) i x 0 e ∙ get_or-set_other t (u * n + v) i x 0 d
 
-  -- and the pair has no direction
-  pub pair_turned : with_pair x n u v t ≡ with_pair x n v u t
-  unfolding with_pair
-  pair_turned = twice t (u * n + v) (v * n + u)
-    where
-      -- two entries that become x can do so in either order
-      twice : (l : List ℕ) (i j : ℕ) → set (set l i x) j x ≡ set (set l j x) i x
-      twice [] i j = refl
-      twice (y ∷ l) zero zero = refl
-      twice (y ∷ l) zero (suc j) = refl
-      twice (y ∷ l) (suc i) zero = refl
-      twice (y ∷ l) (suc i) (suc j) = ap (λ (r : List ℕ). y ∷ r) (twice l i j)
-
 -- u and v are two different vertices, and t is n × n bytes
 pub record PairIn (n u v : ℕ) (t : List ℕ) : Type 0 where
   pub from-below : u < n
   pub to_below : v < n
   pub differ : u ≢ v
   pub whole : length t ≡ n * n
-
--- so it is in the table that is written
-pub pair_in : {n u v : ℕ} {t : List ℕ} → PairIn n u v t → (x : ℕ) → PairIn n u v (with_pair x n u v t)
-pair_in {n} {u} {v} {t} p x =
-    record { from-below = p.from-below; to_below = p.to_below; differ = p.differ; whole = pair_length x n u v t ∙ p.whole }
 
 module _ {n u v : ℕ} {t : List ℕ} (p : PairIn n u v t) where
   module _ (x : ℕ) where
@@ -67,31 +50,6 @@ module _ {n u v : ℕ} {t : List ℕ} (p : PairIn n u v t) where
     pub pair_back : get_or (with_pair x n u v t) (v * n + u) 0 ≡ x
     unfolding with_pair
     pair_back = get_or-set_same (set t (u * n + v) x) (v * n + u) x 0 (simp length-set (omega (arith, p.whole, cell_within n v u p.to_below p.from-below)))
-
-    -- bytes that mirror each other still do
-    pub pair_mirror : ((a b : ℕ) → a < n → b < n → get_or t (a * n + b) 0 ≡ get_or t (b * n + a) 0)
-        → (a b : ℕ) → a < n → b < n → get_or (with_pair x n u v t) (a * n + b) 0 ≡ get_or (with_pair x n u v t) (b * n + a) 0
-    pair_mirror old a b ha hb = go (one_of_two (a * n + b) (u * n + v) (v * n + u))
-      where
-        s : List ℕ
-        s = with_pair x n u v t
-
-        is : {i j : ℕ} → i ≡ j → get_or s j 0 ≡ x → get_or s i 0 ≡ x
-        is e q = ap (λ (k : ℕ). get_or s k 0) e ∙ q
-
-        go : (a * n + b ≡ u * n + v) ⊎ (a * n + b ≡ v * n + u) ⊎ ((a * n + b ≢ u * n + v) × (a * n + b ≢ v * n + u)) → get_or s (a * n + b) 0 ≡ get_or s (b * n + a) 0
-        go (inl e) = is e pair_there ∙ sym (is (cell_turned n a b u v hb p.to_below e) pair_back)
-        go (inr (inl e)) = is e pair_back ∙ sym (is (cell_turned n a b v u hb p.from-below e) pair_there)
-        go (inr (inr d)) =
-            pair_others x n u v t (a * n + b) d.0 d.1 ∙ old a b ha hb
-            ∙ sym (pair_others x n u v t (b * n + a) (λ e. d.1 (cell_turned n b a u v ha p.to_below e)) (λ e. d.0 (cell_turned n b a v u ha p.from-below e)))
-
-    -- the diagonal is kept
-    pub pair_diagonal : (w : ℕ) → w < n → get_or (with_pair x n u v t) (w * n + w) 0 ≡ get_or t (w * n + w) 0
-    pair_diagonal w h =
-        pair_others x n u v t (w * n + w)
-        (λ e. let q = cell_one n w w u v h p.to_below e in p.differ (sym q.0 ∙ q.1))
-        (λ e. let q = cell_one n w w v u h p.from-below e in p.differ (sym q.1 ∙ q.0))
 
     -- every byte is x or what it was
     pub pair_either : (i : ℕ) → (get_or (with_pair x n u v t) i 0 ≡ x) ⊎ (get_or (with_pair x n u v t) i 0 ≡ get_or t i 0)
@@ -122,31 +80,53 @@ module _ {n u v : ℕ} {t : List ℕ} (p : PairIn n u v t) where
       kept : (x y : ℕ) → y < n → ((x ≡ u) × (y ≡ v) → ⊥) → ((x ≡ v) × (y ≡ u) → ⊥) → get_or s (x * n + y) 0 ≡ get_or t (x * n + y) 0
       kept x y hy d e = pair_others (bit b) n u v t (x * n + y) (λ q. d (cell_one n x y u v hy p.to_below q)) (λ q. e (cell_one n x y v u hy p.from-below q))
 
--- written back with what both bytes held, the table is the old one, entry for entry
-pub pair_restored : {n u v : ℕ} {t : List ℕ} → PairIn n u v t → (x y : ℕ) → get_or t (u * n + v) 0 ≡ y → get_or t (v * n + u) 0 ≡ y
-    → with_pair y n u v (with_pair x n u v t) ≡ t
-pair_restored {n} {u} {v} {t} p x y there back =
-    ext_get_or 0 r t (pair_length y n u v s ∙ pair_length x n u v t) (λ i h. at i (one_of_two i (u * n + v) (v * n + u)))
-  where
-    s : List ℕ
-    s = with_pair x n u v t
-
-    r : List ℕ
-    r = with_pair y n u v s
-
-    same : {i j : ℕ} → i ≡ j → get_or r j 0 ≡ y → get_or t j 0 ≡ y → get_or r i 0 ≡ get_or t i 0
-    same e a b = ap (λ (k : ℕ). get_or r k 0) e ∙ a ∙ sym (ap (λ (k : ℕ). get_or t k 0) e ∙ b)
-
-    at : (i : ℕ) → (i ≡ u * n + v) ⊎ (i ≡ v * n + u) ⊎ ((i ≢ u * n + v) × (i ≢ v * n + u)) → get_or r i 0 ≡ get_or t i 0
-    at i (inl e) = same e (pair_there (pair_in p x) y) there
-    at i (inr (inl e)) = same e (pair_back (pair_in p x) y) back
-    at i (inr (inr d)) = pair_others y n u v s i d.0 d.1 ∙ pair_others x n u v t i d.0 d.1
-
 -- ---- a graph that is another but for a pair, whatever table holds it
 
 -- the pair has no direction
 pub but_turned : {b : Bool} {u v : ℕ} {G H : Graph} → ButFor b u v G H → ButFor b v u G H
 but_turned e = record { same_size = e.same_size; there = e.and_back; and_back = e.there; elsewhere = λ x y p q. e.elsewhere x y q p }
+
+-- the pair of x and y is that of u and v, or is not
+same_pair : (x y u v : ℕ) → ((x ≡ u) × (y ≡ v)) ⊎ ((x ≡ u) × (y ≡ v) → ⊥)
+same_pair x y u v = holds_or_not (test_and (test_eq x u) (test_eq y v))
+
+-- a graph of document 01 stays one
+pub but_simple : {b : Bool} {u v : ℕ} {G H : Graph} → ButFor b u v G H → u ≢ v → Simple G → Simple H
+but_simple {b} {u} {v} {G} {H} edit differ old =
+    record {
+      bounded = subst (λ (k : ℕ). k ≤ 1024) (sym edit.same_size) old.bounded;
+      loopless = λ w h. edit.elsewhere w w (λ r. differ (sym r.0 ∙ r.1)) (λ r. differ (sym r.1 ∙ r.0)) ∙ old.loopless w (within h);
+      symmetric = λ x y hx hy. go x y (within hx) (within hy) (same_pair x y u v) (same_pair x y v u);
+    }
+  where
+    within : {w : ℕ} → w < H.size → w < G.size
+    within {w} h = subst (λ (k : ℕ). w < k) edit.same_size h
+
+    -- whichever of its two directions it is, the pair is joined where b says so
+    alike : (x y a c : ℕ) → (x ≡ a) × (y ≡ c) → H.joined a c ≡ b → H.joined c a ≡ b → H.joined x y ≡ H.joined y x
+    alike x y a c r e f = ap₂ H.joined r.0 r.1 ∙ e ∙ sym (ap₂ H.joined r.1 r.0 ∙ f)
+
+    go : (x y : ℕ) → x < G.size → y < G.size → ((x ≡ u) × (y ≡ v)) ⊎ ((x ≡ u) × (y ≡ v) → ⊥) → ((x ≡ v) × (y ≡ u)) ⊎ ((x ≡ v) × (y ≡ u) → ⊥)
+        → H.joined x y ≡ H.joined y x
+    go x y hx hy (inl r) q = alike x y u v r edit.there edit.and_back
+    go x y hx hy (inr d) (inl r) = alike x y v u r edit.and_back edit.there
+    go x y hx hy (inr d) (inr e) =
+        edit.elsewhere x y d e ∙ old.symmetric x y hx hy ∙ sym (edit.elsewhere y x (λ r. e (r.1, r.0)) (λ r. d (r.1, r.0)))
+
+-- and there is one such graph
+pub but_once : {b : Bool} {u v : ℕ} {G H K : Graph} → ButFor b u v G H → ButFor b u v G K → H ≡ K
+but_once {b} {u} {v} {G} {H} {K} e f = λ i. record { size = (e.same_size ∙ sym f.same_size) i; joined = λ x y. at x y i }
+  where
+    at : (x y : ℕ) → H.joined x y ≡ K.joined x y
+    at x y =
+        ⊎_elim
+        (λ r. ap₂ H.joined r.0 r.1 ∙ e.there ∙ sym (ap₂ K.joined r.0 r.1 ∙ f.there))
+        (λ p.
+        ⊎_elim
+        (λ r. ap₂ H.joined r.0 r.1 ∙ e.and_back ∙ sym (ap₂ K.joined r.0 r.1 ∙ f.and_back))
+        (λ q. e.elsewhere x y p q ∙ sym (f.elsewhere x y p q))
+        (same_pair x y v u))
+        (same_pair x y u v)
 
 module _ {b : Bool} {u v : ℕ} {G H : Graph} (edit : ButFor b u v G H) where
   degree-size : (w : ℕ) → degree H w ≡ count G.size (H.joined w)

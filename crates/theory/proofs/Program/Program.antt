@@ -11,9 +11,10 @@ use lib.ListN.{length, take, replicate, length-append}
 use lib.Dec.{ltb}
 use borrow.Author.Tests.{lt-ltb, le-ltb}
 use Rattle.model.specs.Compute.{compute}
-use Rattle.model.specs.Graph.{by_table}
+use Rattle.model.specs.Graph.{Graph, by_table}
 use Rattle.model.specs.Groups.{Settings}
-use Rattle.model.specs.Walk.{fresh, full_sets}
+use Rattle.model.specs.Meaning.{Simple}
+use Rattle.model.specs.Walk.{fresh, lasts, full_sets}
 use Rattle.model.specs.Listing.{rules}
 use Rattle.model.specs.Calls.{refuse_table, refuse_settings, PageReply}
 use Rattle.model.specs.Demand.{all_steps, all_groups, SomeFinished, Demand3}
@@ -179,44 +180,48 @@ prints_some words text = at_some (program_verdict words text) (verdict_listable 
 
 -- ---- page by page
 
-module _ (s : Settings) (n : ℕ) (t : List ℕ) (valid : refuse_table n t ≡ 0) (rs : List PageReply)
-    (chain : Chain (rules (by_table n t) s) (fresh n) rs) where
-  demand : Demand3 (rules (by_table n t) s) n rs
-  demand = chain_demand (rules (by_table n t) s) n (lawful (by_table n t) (table-simple n t valid).loopless s) rs chain
+module _ (G : Graph) (s : Settings) (simple : Simple G) (rs : List PageReply) (chain : Chain (rules G s) (fresh G.size) rs) where
+  demand : Demand3 (rules G s) G.size rs
+  demand = chain_demand (rules G s) G.size (lawful G simple.loopless s) rs chain
 
   -- replies from fresh on print page by page the first lines of the list
-  pub pages_begin : Begins (printed_pages rs) (group_lines (by_table n t) (full_sets (rules (by_table n t) s) n))
+  pub pages_begin : Begins (printed_pages rs) (group_lines G (full_sets (rules G s) G.size))
   pages_begin =
-      let G = by_table n t in
       let d = demand.listed in (
         group_lines G d.rest,
         ap (group_lines G) d.first
             ∙ lines-append G s d.front d.rest
-            ∙ ap (λ (l : List ℕ). l ++ group_lines G d.rest) (sym (pages-printed G s rs (fresh n) chain ∙ ap printed d.entries ∙ records-printed G s d.front)),
+            ∙ ap (λ (l : List ℕ). l ++ group_lines G d.rest) (sym (pages-printed G s rs (fresh G.size) chain ∙ ap printed d.entries ∙ records-printed G s d.front)),
       )
 
   module _ (ended : SomeFinished rs) where
     -- replies that end the walk have reported every group
-    pub all_groups_lem : all_groups rs ≡ length (full_sets (rules (by_table n t) s) n)
+    pub all_groups_lem : all_groups rs ≡ length (full_sets (rules G s) G.size)
     all_groups_lem =
         let d = demand.listed in
-        let z = ap length (none-missing (by_table n t) s rs demand ended) in
+        let z = ap length (none-missing G s rs demand ended) in
         let c = ap length d.first ∙ length-append d.front d.rest in
         let g = d.number in
         omega arith
 
     -- and print page by page a line for each group of the full list
-    pub pages-listed : printed_pages rs ≡ group_lines (by_table n t) (full_sets (rules (by_table n t) s) n)
-    pages-listed = pages-printed (by_table n t) s rs (fresh n) chain ∙ ap printed (demand.whole ended).0 ∙ list-printed (by_table n t) s n
+    pub pages-listed : printed_pages rs ≡ group_lines G (full_sets (rules G s) G.size)
+    pages-listed = pages-printed G s rs (fresh G.size) chain ∙ ap printed (demand.whole ended).0 ∙ list-printed G s G.size
 
-    at_pages : PrintsAt (listing s n t) (printed_pages rs ++ end_line (held (all_groups rs)) (held (all_steps rs)))
-    unfolding PrintsAt
-    at_pages = (
-      all_steps rs,
-      (demand.whole ended).1,
-      ap₂ {C = List ℕ} (λ l r. l ++ r)
-          pages-listed (ap (λ (g : ℕ). end_line (held g) (held (all_steps rs))) all_groups_lem),
-    )
+    -- and the steps that they have reported are the walk's length
+    pub pages-length : lasts (rules G s) (all_steps rs) (fresh G.size) ≡ true
+    pages-length = (demand.whole ended).1
+
+at_pages : (s : Settings) (n : ℕ) (t : List ℕ) → Simple (by_table n t) → (rs : List PageReply) → Chain (rules (by_table n t) s) (fresh n) rs → SomeFinished rs
+    → PrintsAt (listing s n t) (printed_pages rs ++ end_line (held (all_groups rs)) (held (all_steps rs)))
+unfolding PrintsAt
+at_pages s n t simple rs chain ended = (
+  all_steps rs,
+  pages-length (by_table n t) s simple rs chain ended,
+  ap₂ {C = List ℕ} (λ l r. l ++ r)
+      (pages-listed (by_table n t) s simple rs chain ended)
+      (ap (λ (g : ℕ). end_line (held g) (held (all_steps rs))) (all_groups_lem (by_table n t) s simple rs chain ended)),
+)
 
 -- replies to page calls from fresh on, of which one has said Finished, print page by page what the program prints
 pub pages_print : (words : List (List ℕ)) (text : List ℕ) (s : Settings) (n : ℕ) (t : List ℕ) → program_verdict words text ≡ listing s n t
@@ -224,7 +229,7 @@ pub pages_print : (words : List (List ℕ)) (text : List ℕ) (s : Settings) (n 
     → Prints words text (printed_pages rs ++ end_line (held (all_groups rs)) (held (all_steps rs)))
 pages_print words text s n t e rs chain ended =
     subst⁻¹ (λ (x : Verdict). PrintsAt x (printed_pages rs ++ end_line (held (all_groups rs)) (held (all_steps rs)))) e
-    (at_pages s n t (subst Answerable e (verdict_listable words text)).1 rs chain ended)
+    (at_pages s n t (table-simple n t (subst Answerable e (verdict_listable words text)).1) rs chain ended)
 
 -- ---- the example of document 01
 

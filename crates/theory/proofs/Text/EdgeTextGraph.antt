@@ -43,7 +43,7 @@ module _ (n : ℕ) (xs : List Line) (t : List ℕ) (a : Table n xs t) (ends : (u
   -- a byte is 0 or 1, that of a vertex with itself is 0, and the bytes of a pair are equal
   byte_small : (i : ℕ) → i < length t → (get_or t i 0 ≡ 0) ⊎ (get_or t i 0 ≡ 1)
   byte_small i h =
-      each_cell n (λ k. (get_or t k 0 ≡ 0) ⊎ (get_or t k 0 ≡ 1)) (λ u v hu hv. go u v hu hv (joins_or_not xs (suc u) (suc v))) i
+      each_cell n n (λ k. (get_or t k 0 ≡ 0) ⊎ (get_or t k 0 ≡ 1)) (λ u v hu hv. go u v hu hv (joins_or_not xs (suc u) (suc v))) i
       (subst (λ (k : ℕ). i < k) a.size h)
     where
       go : (u v : ℕ) → u < n → v < n → HasPair xs (suc u) (suc v) ⊎ (HasPair xs (suc u) (suc v) → ⊥) → (get_or t (u * n + v) 0 ≡ 0) ⊎ (get_or t (u * n + v) 0 ≡ 1)

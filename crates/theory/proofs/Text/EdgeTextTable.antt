@@ -163,7 +163,7 @@ module _ (n : ℕ) where
 
     -- the lines have one table
     pub table-one : (s : List ℕ) → Table n xs s → t ≡ s
-    table-one s b = one_table n t s a.size b.size (λ u v hu hv. go u v hu hv (joins_or_not xs (suc u) (suc v)))
+    table-one s b = one_table n n t s a.size b.size (λ u v hu hv. go u v hu hv (joins_or_not xs (suc u) (suc v)))
       where
         go : (u v : ℕ) → u < n → v < n → HasPair xs (suc u) (suc v) ⊎ (HasPair xs (suc u) (suc v) → ⊥) → get_or t (u * n + v) 0 ≡ get_or s (u * n + v) 0
         go u v hu hv (inl j) = a.joined u v hu hv j ∙ sym (b.joined u v hu hv j)

@@ -1,8 +1,8 @@
--- `graph::ones` meets its contract: the sum is how many of the bytes that were passed are 1.
+-- `graph::ones` meets its contract: the sum is the ones of the numbers that were passed.
 -- Assumes nothing.
-use Rattle.std.proofs.Common.{◌≡◌, ◌==◌, take}
-use Rattle.std.specs.List.{count_by}
+use Rattle.std.proofs.Common.{◌≡◌, ◌≤◌, ◌*◌, take}
+use Rattle.theory.specs.Ones.{ones_of}
 use Rattle.graph.proofs.rows.ones.Given as goal
 
-abbrev pub invariant-loop-byte : goal.invariant-loop-byte
-invariant-loop-byte l = l.sum ≡ count_by (λ byte. byte == 1) (take l.byte-index l.row)
+abbrev pub invariant-loop-number : goal.invariant-loop-number
+invariant-loop-number l = (l.sum ≡ ones_of (take l.number-index l.row)) × (l.sum ≤ 64 * l.number-index)

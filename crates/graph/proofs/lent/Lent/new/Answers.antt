@@ -27,7 +27,7 @@ returns-then-has_wrong_degree-clause-refused c =
     (sym (wrong_degree-of t.table t.ensures.held _) ∙ sym c.has_wrong_degree.ensures ∙ c.if-has_wrong_degree.true)
 
 -- the graph is accepted
-accepted : (c : After-has_wrong_degree) → c.has_wrong_degree.result ≡ false → 0 ≡ (lent c.args.n c.args.bytes.now c.args.degrees.now).fault
+accepted : (c : After-has_wrong_degree) → c.has_wrong_degree.result ≡ false → 0 ≡ (lent c.args.n c.args.numbers.now c.args.degrees.now).fault
 unfolding refuse
 accepted c e =
     let t = c.in_ok-table in
