@@ -23,7 +23,9 @@ fn write_group(out: &mut [u16], edges: usize, vertices: &[u16])
     out[0] = k as u16;
     out[1] = (edges / 65_536) as u16;
     out[2] = (edges % 65_536) as u16;
-    out[3..k + 3].copy_from_slice(vertices);
+    for (i, vertex) in vertices.iter().enumerate() {
+        out[3 + i] = *vertex;
+    }
 }
 
 // Writes the record of a group into the output right after its first `used` entries, and nothing else of it: lends the unused part of the output to
