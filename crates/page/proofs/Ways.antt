@@ -15,17 +15,18 @@ use Rattle.rounds.specs.declared.PageAnswer.{PageAnswer}
 use Rattle.rounds.specs.Answer.{PageReplies, refused}
 use Rattle.page.specs.Call.{PageCalled}
 
-module _ (L : LentGraph) (s : Settings) (budget : ℕ) (p : Position) (out w : List ℕ) where
-  -- the refusal of a call is that of its input
-  pub page-by_input : refuse_input L s (length p) (length w) ≢ 0 → refuse_page L s p (length w) ≡ refuse_input L s (length p) (length w)
+module _ (L : LentGraph) (s : Settings) (p : Position) (work : ℕ) where
+  -- the refusal of a call with a work slice of so many entries is that of its input
+  pub page-by_input : refuse_input L s (length p) work ≢ 0 → refuse_page L s p work ≡ refuse_input L s (length p) work
   unfolding refuse_page
   page-by_input d = else_found d _
 
   -- and where that has none, that of its position
-  pub page-by_position : refuse_input L s (length p) (length w) ≡ 0 → refuse_page L s p (length w) ≡ refuse_position (rules L.graph s) p
+  pub page-by_position : refuse_input L s (length p) work ≡ 0 → refuse_page L s p work ≡ refuse_position (rules L.graph s) p
   unfolding refuse_page
   page-by_position e = else_none e _
 
+module _ (L : LentGraph) (s : Settings) (budget : ℕ) (p : Position) (out w : List ℕ) where
   -- refused: the number is the call's, and all is left as it was
   pub called_refused : {r : ℕ} → r ≡ refuse_page L s p (length w) → r ≢ 0 → {a : PageAnswer} → a ≡ refused r → PageCalled L s budget p out w a p out w
   unfolding reply_to reply_of
