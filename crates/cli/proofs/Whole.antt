@@ -60,7 +60,7 @@ read_same words text read h = words_same (settings_of_words words) text read h
 -- an end is told only where nothing was cut
 ended-uncut : (l : Result Totals Unlisted) (w : Bool) → outcome_of l w ≡ Ended → Uncut l
 ended-uncut (Ok l) w e = tt
-ended-uncut (Err (TurnedBack r)) w e = tt
+ended-uncut (Err (TurnedBack k line)) w e = tt
 ended-uncut (Err Cut) w e = cc
 
 said_listed : (words : List (List ℕ)) (text : List ℕ) (q : Listing) (t : List ℕ) → verdict_of (Ok q) t ≡ program_verdict words text

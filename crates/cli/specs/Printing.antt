@@ -4,6 +4,7 @@ use Rattle.model.specs.Graph.{by_table}
 use Rattle.model.specs.Program.{settings_of_words, program_verdict, Prints}
 use Rattle.theory.specs.Printed.{printed_pages, Begins}
 use Rattle.isolation.specs.Numbers.{settings_of}
+use Rattle.refusal.specs.Numbers.{number}
 use Rattle.listing.specs.List.{Ran}
 use Rattle.listing.specs.declared.totals.Totals.{Totals}
 use Rattle.dimacs.specs.declared.Refused.{Refused}
@@ -23,7 +24,7 @@ unlisted_if_cut (Err l) = Err Cut
 
 -- what is listed for a verdict: the pages of its graph; of a refusal nothing is listed
 abbrev pub ListedBy : Result Listing Refused → List ℕ → Result Totals Unlisted → Type 0
-ListedBy (Err r) t l = l ≡ Err (TurnedBack r)
+ListedBy (Err r) t l = l ≡ Err (TurnedBack (number r.refusal) r.line)
 ListedBy (Ok q) t l = (r : Result Totals Totals) × (l ≡ unlisted_if_cut r) × Ran (by_table q.vertices (take (q.vertices * q.vertices) t)) (settings_of q.settings) r
 
 -- a verdict is answered: what it asks for is listed, and the outcome goes by this list and by whether its last line was written, which may be either
@@ -51,7 +52,7 @@ pages_of (Ok q) t l h = printed_pages h.2.replies
 -- nothing was cut: it is a refusal, or its list is whole
 abbrev pub Uncut : Result Totals Unlisted → Type 0
 Uncut (Ok l) = Unit {0}
-Uncut (Err (TurnedBack r)) = Unit {0}
+Uncut (Err (TurnedBack k line)) = Unit {0}
 Uncut (Err Cut) = ⊥
 
 -- The verdict is document 01's. Where nothing was cut, what is printed of the pages and then the last line are what document 01 says. Where the list was cut,

@@ -1,5 +1,5 @@
 // The program: it reads its words and its text, decides, and prints a refusal or all groups and the totals.
-ghost use Rattle.std.specs.Prelude.{◌≡◌, replicate};
+ghost use Rattle.std.specs.Prelude.{◌≡◌, ◌≤◌, length, replicate};
 ghost use Rattle.model.specs.Graph.{by_table};
 ghost use Rattle.model.specs.Calls.{refuse_table};
 ghost use Rattle.isolation.specs.Numbers.{settings_of};
@@ -118,7 +118,9 @@ fn respond(
 }
 
 // An argument, as it stands at the start of a buffer: where it is not there or does not fit, the empty one.
-fn argument<'a>(rt: &impl Env, place: usize, buffer: &'a mut [u8]) -> &'a [u8] {
+fn argument<'a>(rt: &impl Env, place: usize, buffer: &'a mut [u8]) -> &'a [u8]
+    ensures { length result.now ≤ length buffer.old }
+{
     let end = rt.arg(place, buffer).unwrap_or(0);
     &buffer[..end]
 }

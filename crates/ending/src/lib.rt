@@ -2,6 +2,7 @@
 #![tactic(auto)]
 
 ghost use Rattle.std.specs.Prelude.{◌≡◌};
+ghost use Rattle.refusal.specs.Numbers.{number};
 ghost use Rattle.print.specs.Put.{Room, Puts};
 ghost use Rattle.ending.specs.declared.Unlisted.TheVariants.{TurnedBack};
 ghost use Rattle.ending.specs.Ending.{last_line, outcome_of, outcome_line};
@@ -10,27 +11,27 @@ use dimacs::Refused;
 use listing::totals::Totals;
 use print::Printer;
 
-// Why there is no whole list: the words or the text were refused, or the list was cut at a write that failed.
+// Why there is no whole list: the words or the text were refused, with the number and the line of the refusal, or the list was cut at a write that failed.
 #[derive(Clone, Copy)]
 pub enum Unlisted {
-    TurnedBack(Refused),
+    TurnedBack(u32, usize),
     Cut,
 }
 
 impl From<Refused> for Unlisted {
-    ghost from_gives = { λ refused unlisted. unlisted ≡ TurnedBack refused };
+    ghost from_gives = { λ refused unlisted. unlisted ≡ TurnedBack (number refused.refusal) refused.line };
 
     fn from(refused: Refused) -> Unlisted {
-        Unlisted::TurnedBack(refused)
+        Unlisted::TurnedBack(refused.refusal.into(), refused.line)
     }
 }
 
-// An `end` line was printed and all was written; a refusal was printed; a write failed, and nothing was written after it; the text could not be
-// read, and nothing was printed.
+// An `end` line was printed and all was written; a refusal was printed, by its number and its line; a write failed, and nothing was written after it; the text
+// could not be read, and nothing was printed. Any number can be told, also one that is no refusal of today.
 #[derive(Clone, Copy)]
 pub enum Outcome {
     Ended,
-    TurnedBack(Refused),
+    TurnedBack(u32, usize),
     Cut,
     Unread,
 }
@@ -42,7 +43,7 @@ pub fn put_last_line(listed: Result<Totals, Unlisted>, printer: &mut Printer)
 {
     match listed {
         Ok(totals) => printer.put_end_line(totals.groups, totals.steps),
-        Err(Unlisted::TurnedBack(r)) => printer.put_refused_line(r.refusal.into(), r.line),
+        Err(Unlisted::TurnedBack(number, line)) => printer.put_refused_line(number, line),
         Err(Unlisted::Cut) => {}
     }
 }
@@ -56,7 +57,7 @@ pub fn outcome_of(listed: Result<Totals, Unlisted>, written: bool) -> Outcome
     }
     match listed {
         Ok(_) => Outcome::Ended,
-        Err(Unlisted::TurnedBack(r)) => Outcome::TurnedBack(r),
+        Err(Unlisted::TurnedBack(number, line)) => Outcome::TurnedBack(number, line),
         Err(Unlisted::Cut) => Outcome::Cut,
     }
 }
@@ -68,7 +69,7 @@ pub fn put_outcome_line(outcome: Outcome, printer: &mut Printer)
 {
     match outcome {
         Outcome::Ended => printer.put(b"end\n"),
-        Outcome::TurnedBack(r) => printer.put_refused_line(r.refusal.into(), r.line),
+        Outcome::TurnedBack(number, line) => printer.put_refused_line(number, line),
         Outcome::Cut => printer.put(b"cut\n"),
         Outcome::Unread => printer.put(b"unread\n"),
     }
