@@ -31,13 +31,13 @@ pub struct State {
     pub apart: bool,
 }
 
-// Whether some of the vertices is not joined to v. Reads them up to the first that is not.
+// Whether some of the vertices is not joined to v. Reads them from the last, up to one that is not: a vertex that misses only the last one taken costs one test.
 fn misses_one(table: &Table, vertices: &[u16], v: usize) -> bool
     requires vertex { v < table.now.n }
     requires vertices { VerticesOf table.now.n vertices.now }
     ensures { result ≡ any (length vertices.now) (λ j. not ((graph_in table.now).joined (get_or vertices.now j 0) v)) }
 {
-    for u in vertices {
+    for u in vertices.iter().rev() {
         if !table.joined(usize::from(*u), v) {
             return true;
         }
