@@ -1,7 +1,7 @@
 -- Line by line: what was read so far, and what is left of the text, give the definition's reply. Assumes nothing.
 use Prim.Native.Nat.{ℕ, suc, ◌+◌, ◌*◌, ◌-◌, ◌≤◌, ◌<◌}
 use mathlib.Core.Path.{◌≡◌, refl, sym, ap, ap₂, ◌∙◌}
-use mathlib.Core.Bool.{true, true≢false}
+use mathlib.Core.Bool.{true, false, true≢false}
 use mathlib.Core.List.{List, [], ◌∷◌, ◌++◌}
 use native.Mathlib.Nat.{mul-le-mul}
 use native.Mathlib.Numerals.{add-one}
@@ -9,26 +9,28 @@ use native.Mathlib.Omega.{arith}
 use lib.ListN.{length, take, drop, replicate, take-append-drop, length-drop, drop_of_length-le}
 use lib.Seq.{drop-drop}
 use borrow.Author.Tests.{eq-eqb, ne_eqb}
-use Rattle.std.specs.Prelude.{Option, Some, None, Result, Ok, Err}
+use Rattle.std.specs.Prelude.{Result, Ok, Err}
 use Rattle.std.specs.Result.{is_err}
-use Rattle.model.specs.Text.{Step, bad, next, line_step, lines_of, refused_at, read_from, read_text}
+use Rattle.model.specs.Text.{Reading, Step, bad, next, line_step, lines_of, refused_at, read_from, read_text}
 use Rattle.refusal.specs.declared.Refusal.{Refusal}
 use Rattle.refusal.specs.Numbers.{number}
 use Rattle.lines.specs.declared.said.Said.{Said}
+use Rattle.lines.specs.declared.said.Progress.{Progress}
+use Rattle.lines.specs.declared.said.Progress.TheVariants.{Passed}
 use Rattle.lines.specs.declared.reader.Reader.{Reader}
-use Rattle.lines.specs.Said.{edges_of, area_of}
-use Rattle.lines.specs.Line.{room_of, reading, reading_of, LineRead, FirstLine}
+use Rattle.lines.specs.Said.{passed_of, edges_of, area_of}
+use Rattle.lines.specs.Line.{start, room_of, reading, reading_of, LineRead, FirstLine}
 use Rattle.dimacs.specs.declared.Refused.{Refused}
 use Rattle.dimacs.specs.Reply.{text_reply, cleared_reply}
 
 -- ---- the end of the text
 
 module _ (line : ℕ) (q : Reader) where
-  pub end_33 : q.said ≡ None → refused_at 33 line (reading_of q) q.table.now ≡ read_from line (reading_of q) [] q.table.now
+  pub end_33 : passed_of q.said ≡ false → refused_at 33 line (reading_of q) q.table.now ≡ read_from line (reading_of q) [] q.table.now
   unfolding read_from
   end_33 e = rw e
 
-  module _ {s : Said} (e : q.said ≡ Some s) where
+  module _ {s : Said} (e : q.said ≡ Passed s) where
     pub end_39 : (s.edges ≡ s.stated → ⊥) → refused_at 39 line (reading_of q) q.table.now ≡ read_from line (reading_of q) [] q.table.now
     unfolding read_from
     end_39 f = rw (e, ne_eqb s.edges s.stated f)
@@ -50,15 +52,15 @@ pub record SoFar (text t₀ : List ℕ) (q : Reader) (at line : ℕ) : Type 0 wh
   pub reads : read_from line (reading_of q) (lines_of (drop at text)) t₀ ≡ read_text text t₀
 
 -- before the first line
-pub so_none : (text : List ℕ) (q : Reader) → q.said ≡ None → SoFar text q.table.now q 0 1
+pub so_none : (text : List ℕ) (q : Reader) → reading_of q ≡ start → SoFar text q.table.now q 0 1
 unfolding read_text
 so_none text q e = record {
   size = refl;
   rest = refl;
-  counted = rw e (omega arith);
+  counted = omega (arith, ap (λ (r : Reading). r.edges) e);
   lines = omega arith;
   within = omega arith;
-  reads = rw e refl;
+  reads = ap (λ (r : Reading). read_from 1 r (lines_of text) q.table.now) e;
 }
 
 -- the bytes past a larger table are untouched too
@@ -68,7 +70,7 @@ rest_more n n' t t₀ h e =
     rw w at (sym (drop-drop (n' - n) n t) ∙ ap (λ (l : List ℕ). drop (n' - n) l) e ∙ drop-drop (n' - n) n t₀)
 
 -- a refusal speaks only of the bytes past the table
-refused-same : (k line : ℕ) (s : Option Said) (t t' x y : List ℕ) → drop (area_of s) x ≡ drop (area_of s) y →
+refused-same : (k line : ℕ) (s : Progress) (t t' x y : List ℕ) → drop (area_of s) x ≡ drop (area_of s) y →
     refused_at k line (reading s t) x ≡ refused_at k line (reading s t') y
 unfolding refused_at
 refused-same k line s t t' x y e =
@@ -109,7 +111,7 @@ module _ {text t₀ : List ℕ} {q : Reader} {at line : ℕ} (f : SoFar text t�
 
         same : refused_at k line (reading_of q') q'.table.now ≡ refused_at k line (reading_of q) t₀
         same =
-            ap₂ (λ (s : Option Said) (l : List ℕ). refused_at k line (reading s l) l) w.kept.said w.kept.table
+            ap₂ (λ (s : Progress) (l : List ℕ). refused_at k line (reading s l) l) w.kept.said w.kept.table
             ∙ refused-same k line q.said q.table.now q.table.now q.table.now t₀ f.rest
 
         step : bad k ≡ line_step (length t₀) (reading_of q) here

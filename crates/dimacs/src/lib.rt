@@ -1,13 +1,14 @@
 // The text reader of document 01: an edge text becomes the table of a graph, line by line, in place.
 #![tactic(auto)]
 
-ghost use Rattle.std.specs.Prelude.{◌≡◌, ◌++◌, replicate, drop, None};
+ghost use Rattle.std.specs.Prelude.{◌≡◌, ◌++◌, replicate, drop};
 ghost use Rattle.model.specs.Text.{read_text};
 ghost use Rattle.lines.specs.Said.{area_of};
+ghost use Rattle.lines.specs.Line.{reading_of, start};
 ghost use Rattle.dimacs.specs.Reply.{answer_of, text_reply, cleared_reply, ReadsAs};
 
 use lines::Reader;
-use lines::said::Said;
+use lines::said::{Counts, Progress, Said};
 use refusal::Refusal;
 
 // What a call answers: 0, N, M and 0, or the refusal's number, zeros and the line.
@@ -59,7 +60,7 @@ impl From<Result<Said, Refused>> for TextAnswer {
 // Reads the lines of a text, once, from the first to the last, up to a refusal, which is of its line. At the end: 33 no p line, 39 M differs, both with
 // the line count plus 1.
 fn read_lines(text: &[u8], reader: &mut Reader) -> Result<Said, Refused>
-    requires { reader.old.said ≡ None }
+    requires { reading_of reader.old ≡ start }
     ensures same_reference { reader.new.table.ghost_name ≡ reader.old.table.ghost_name }
     ensures lines_read { cleared_reply result reader.new ≡ read_text text.now reader.old.table.now }
 {
@@ -71,10 +72,12 @@ fn read_lines(text: &[u8], reader: &mut Reader) -> Result<Said, Refused>
         at += first.length + 1;
         line += 1;
     }
-    let s = reader.said.ok_or(Refused {
-        refusal: Refusal::NoProblemLine,
-        line,
-    })?;
+    let Progress::Passed(s) = reader.said else {
+        return Err(Refused {
+            refusal: Refusal::NoProblemLine,
+            line,
+        });
+    };
     if s.edges != s.stated {
         return Err(Refused {
             refusal: Refusal::EdgeCount,
@@ -89,7 +92,10 @@ fn clear(reader: &mut Reader)
     ensures same_reference { reader.new.table.ghost_name ≡ reader.old.table.ghost_name }
     ensures cleared { reader.new.table.now ≡ replicate (area_of reader.old.said) 0 ++ drop (area_of reader.old.said) reader.old.table.now }
 {
-    let n = reader.said.map_or(0, |s| s.vertices);
+    let n = match reader.said {
+        Progress::Passed(s) => s.vertices,
+        Progress::Before(_) => 0,
+    };
     reader.table[0..n * n].fill(0);
 }
 
@@ -99,7 +105,13 @@ fn clear(reader: &mut Reader)
 pub fn read(text: &[u8], table: &mut [u8]) -> Result<Said, Refused>
     ensures { text_reply result table.new ≡ read_text text.now table.old }
 {
-    let mut reader = Reader { table, said: None };
+    let mut reader = Reader {
+        table,
+        said: Progress::Before(Counts {
+            stated: 0,
+            edges: 0,
+        }),
+    };
     let read = read_lines(text, &mut reader);
     if read.is_err() {
         clear(&mut reader);

@@ -1,13 +1,13 @@
 -- What the readers of a line promise. Assumes nothing.
-use Rattle.std.specs.Prelude.{ℕ, ◌+◌, ◌^◌, ◌≤◌, ◌≡◌, ◌<◌, not, IfSome, is_some, List, ◌∷◌, ◌++◌, length, take, drop, Option, Result, Ok, Err}
+use Rattle.std.specs.Prelude.{ℕ, ◌+◌, ◌^◌, ◌≤◌, ◌≡◌, ◌<◌, false, not, IfSome, List, [], ◌∷◌, ◌++◌, length, take, drop, Option, Result, Ok, Err}
 use Rattle.model.specs.Text.{Reading, Step, bad, next, fault, p_line, e_line, p_fields, fields_of, lines_of}
 use Rattle.model.specs.EdgeText.{Spells, edge}
 use Rattle.number.specs.Field.{on_pair}
 use Rattle.refusal.specs.declared.Refusal.{Refusal}
 use Rattle.refusal.specs.Numbers.{number}
-use Rattle.lines.specs.declared.said.Said.{Said}
+use Rattle.lines.specs.declared.said.Progress.{Progress}
 use Rattle.lines.specs.declared.EdgeLine.{EdgeLine}
-use Rattle.lines.specs.Said.{vertices_of, stated_of, edges_of, area_of}
+use Rattle.lines.specs.Said.{passed_of, vertices_of, stated_of, edges_of, area_of}
 use Rattle.lines.specs.declared.reader.Reader.{Reader}
 
 -- the first bytes of a line
@@ -15,9 +15,9 @@ abbrev pub StartsWith : List ℕ → List ℕ → Type 0
 StartsWith head line = (rest : List ℕ) × (line ≡ head ++ rest)
 
 -- what the lines so far say, and the first N × N bytes of the table slice, as the definition's reading
-abbrev pub reading : Option Said → List ℕ → Reading
+abbrev pub reading : Progress → List ℕ → Reading
 reading s t = record {
-  passed = is_some s;
+  passed = passed_of s;
   vertices = vertices_of s;
   stated = stated_of s;
   edges = edges_of s;
@@ -26,6 +26,10 @@ reading s t = record {
 
 abbrev pub reading_of : Reader → Reading
 reading_of r = reading r.said r.table.now
+
+-- the reading before the first line
+abbrev pub start : Reading
+start = record { passed = false; vertices = 0; stated = 0; edges = 0; table = [] }
 
 -- the length of the table slice
 abbrev pub room_of : Reader → ℕ

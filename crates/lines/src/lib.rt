@@ -4,12 +4,14 @@
 pub mod reader;
 pub mod said;
 
-ghost use Rattle.std.specs.Prelude.{◌≡◌, ◌<◌, [], ◌∷◌, length, take, None, IfSome};
+ghost use Rattle.std.specs.Prelude.{◌≡◌, ◌<◌, false, [], ◌∷◌, length, take, IfSome};
 ghost use Rattle.model.specs.Text.{p_line, line_step};
+ghost use Rattle.lines.specs.Said.{passed_of};
 ghost use Rattle.lines.specs.Line.{StartsWith, reading_of, room_of, edge_step, ProblemRead, CanCountOne, LineRead, FirstLine, EdgeFirst};
 
 pub use crate::reader::Reader;
-use crate::said::Said;
+use crate::said::Progress;
+pub use crate::said::Said;
 use refusal::Refusal;
 
 // An e line in form that byte 10 ends: its U, V and length.
@@ -58,7 +60,7 @@ fn first_edge(text: &[u8]) -> Option<EdgeLine>
 impl Reader<'_> {
     // A p line's numbers: 35 N over 1,024; 40 table under N × N.
     fn problem(&mut self, n: usize, m: usize) -> Result<(), Refusal>
-        requires nothing_said { self.old.said ≡ None }
+        requires nothing_passed { passed_of self.old.said ≡ false }
         requires six_digits { m < 1000000 }
         ensures same_reference { self.new.table.ghost_name ≡ self.old.table.ghost_name }
         ensures line_read { LineRead (p_line (room_of self.old) n m) self.old self.new result }
@@ -71,7 +73,7 @@ impl Reader<'_> {
             return Err(Refusal::TableRoom);
         }
         self.table[0..area].fill(0);
-        self.said = Some(Said {
+        self.said = Progress::Passed(Said {
             vertices: n,
             stated: m,
             edges: 0,
@@ -81,12 +83,13 @@ impl Reader<'_> {
 
     // An e line's numbers: 33 no p line before it; 36 U or V out of range; 37 U = V. The line counts and its pair is joined, also where the pair stood
     // before.
+    #[tactic(auto, using(crate::proofs::Steps::before_p_line, crate::proofs::Steps::out_of_range))]
     fn edge(&mut self, u: usize, v: usize) -> Result<(), Refusal>
         requires can_count { CanCountOne self.old }
         ensures same_reference { self.new.table.ghost_name ≡ self.old.table.ghost_name }
         ensures line_read { LineRead (edge_step (reading_of self.old) u v) self.old self.new result }
     {
-        let Some(mut said) = self.said else {
+        let Progress::Passed(mut said) = self.said else {
             return Err(Refusal::NoProblemLine);
         };
         let n = said.vertices;
@@ -101,19 +104,20 @@ impl Reader<'_> {
         self.table[there] = 1;
         self.table[back] = 1;
         said.edges += 1;
-        self.said = Some(said);
+        self.said = Progress::Passed(said);
         Ok(())
     }
 
     // A p line, which starts with p and a space: 34 a second p line; 32 another fault of form; then its numbers.
+    #[tactic(auto, using(crate::proofs::Steps::second_p_line))]
     fn problem_line(&mut self, line: &[u8]) -> Result<(), Refusal>
         requires starts { StartsWith (112 ∷ 32 ∷ []) line.now }
         ensures same_reference { self.new.table.ghost_name ≡ self.old.table.ghost_name }
         ensures line_read { LineRead (line_step (room_of self.old) (reading_of self.old) line.now) self.old self.new result }
     {
-        if self.said.is_some() {
+        let Progress::Before(_) = self.said else {
             return Err(Refusal::SecondProblemLine);
-        }
+        };
         let (n, m) = problem_numbers(line).ok_or(Refusal::Form)?;
         self.problem(n, m)
     }
@@ -124,9 +128,9 @@ impl Reader<'_> {
         ensures same_reference { self.new.table.ghost_name ≡ self.old.table.ghost_name }
         ensures line_read { LineRead (line_step (room_of self.old) (reading_of self.old) (101 ∷ 32 ∷ fields.now)) self.old self.new result }
     {
-        if self.said.is_none() {
+        let Progress::Passed(_) = self.said else {
             return Err(Refusal::NoProblemLine);
-        }
+        };
         let (u, v) = number::two_numbers(fields).ok_or(Refusal::Form)?;
         self.edge(u, v)
     }

@@ -6,7 +6,6 @@ use Rattle.std.specs.Prelude.{Ok, Err}
 use Rattle.std.proofs.lemmas.Grind.{common_steps}
 use Rattle.std.proofs.lemmas.List.{take_rest}
 use Rattle.std.proofs.lemmas.Result.{err_from_is_err_and}
-use Rattle.refusal.specs.declared.Refusal.TheVariants.{NoProblemLine}
 use Rattle.dimacs.proofs.LineByLine.{so_none, so_ended, so_faulty, so_next, end_33, end_39, end_accepted}
 use Rattle.dimacs.proofs.read_lines.Goals as goal
 
@@ -31,17 +30,14 @@ loop-at-preserved c =
       so_next c.loop-at.invariant.1 (take_rest c.args.text.now c.loop-at.at) c.read_first-first.ensures.first_line w c.loop-at-test.true,
     )
 
-pub returns-in_err-s-clause-lines_read : goal.returns-in_err-s-clause-lines_read
-returns-in_err-s-clause-lines_read c =
-    let p = err_from_is_err_and c.from_residual-in_err-s.result c.from_residual-in_err-s.ensures.1 in
-    let none : c.in_err-s.field-0.0 ≡ record { refusal = NoProblemLine; line = c.loop-at.line } = grind (arith, common_steps) in
-    rw (p.1, p.2, none)
-    (end_33 _ c.loop-at.reader c.in_err-s.ensures.ok_part ∙ so_ended c.loop-at.invariant.1 c.loop-at-test.false)
+pub returns-in_default-clause-lines_read : goal.returns-in_default-clause-lines_read
+returns-in_default-clause-lines_read c =
+    end_33 _ c.loop-at.reader (rw c.in_default.is) ∙ so_ended c.loop-at.invariant.1 c.loop-at-test.false
 
 pub returns-then-s-clause-lines_read : goal.returns-then-s-clause-lines_read
 returns-then-s-clause-lines_read c =
-    end_39 _ c.loop-at.reader c.in_ok-s.ensures.ok_part (λ e. omega arith) ∙ so_ended c.loop-at.invariant.1 c.loop-at-test.false
+    end_39 _ c.loop-at.reader c.in-Passed.is (λ e. omega arith) ∙ so_ended c.loop-at.invariant.1 c.loop-at-test.false
 
 pub returns-clause-lines_read : goal.returns-clause-lines_read
 returns-clause-lines_read c =
-    end_accepted _ c.loop-at.reader c.in_ok-s.ensures.ok_part (omega arith) ∙ so_ended c.loop-at.invariant.1 c.loop-at-test.false
+    end_accepted _ c.loop-at.reader c.in-Passed.is (omega arith) ∙ so_ended c.loop-at.invariant.1 c.loop-at-test.false

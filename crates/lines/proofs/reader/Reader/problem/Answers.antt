@@ -14,4 +14,4 @@ pub returns-then-self-area-clause-line_read : goal.returns-then-self-area-clause
 returns-then-self-area-clause-line_read c = faulty (at_fault _ (past_fault _ (problem_tests _ _ _) (le-ltb _ _ c.if-n-gt-MOST_VERTICES.false)) (lt-ltb _ _ c.if-self-area.true))
 
 pub returns-clause-line_read : goal.returns-clause-line_read
-returns-clause-line_read c = cleared c.requires.nothing_said c.if-n-gt-MOST_VERTICES.false c.if-self-area.false refl refl refl refl (search rules)
+returns-clause-line_read c = cleared c.requires.nothing_passed c.if-n-gt-MOST_VERTICES.false c.if-self-area.false refl refl refl refl (search rules)
