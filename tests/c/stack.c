@@ -158,8 +158,7 @@ int main(void) {
     measure("join", ask_join, 0);
     measure("part", ask_part, 0);
     set[0] = 1;
-    /* The deepest search adds 511 members, each at more than 128 bytes. */
-    measure("set query", ask_set, 512 * 128);
+    measure("set query", ask_set, ISOLATED_STACK / 2);
     /* Vertex 0 has rank 1: only vertex N - 1, of degree 1, comes before it. */
     memset(position, ISOLATED_LEFT, N);
     position[1] = ISOLATED_TAKEN;
