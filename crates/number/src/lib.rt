@@ -14,23 +14,28 @@ pub struct Lead {
     pub count: usize,
 }
 
-// "A number is 1 to 6 digits, decimal": the digits that some bytes start with, 6 at most.
+// "A number is 1 to 6 digits, decimal": the digits that some bytes start with, 6 at most. Inlined, and of six turns at most, so that a text is read without a
+// wait for the count of each number's digits; this and the two below take most of a line's time.
+#[inline(always)]
 fn digits(bytes: &[u8]) -> Lead
     requires { FirstDigit bytes.now }
     ensures { DigitsLead bytes.now result }
 {
-    let most = bytes.len().min(6);
     let mut value = 0;
-    for (i, &byte) in bytes[..most].iter().enumerate() {
+    for i in 0..6 {
+        let Some(&byte) = bytes.get(i) else {
+            return Lead { value, count: i };
+        };
         match byte {
             b'0'..=b'9' => value = value * 10 + usize::from(byte - b'0'),
             _ => return Lead { value, count: i },
         }
     }
-    Lead { value, count: most }
+    Lead { value, count: 6 }
 }
 
 // The number that some bytes start with, "without leading zero except 0 itself".
+#[inline(always)]
 fn leading(bytes: &[u8]) -> Option<Lead>
     ensures { NumberLeads bytes.now result }
 {
@@ -42,6 +47,7 @@ fn leading(bytes: &[u8]) -> Option<Lead>
 }
 
 // The number that some bytes start with and that byte b ends. `None` says nothing of them.
+#[inline(always)]
 pub fn ended(bytes: &[u8], b: u8) -> Option<Lead>
     ensures { IfSome result (λ lead. NumberEnds bytes.now b lead) }
 {
