@@ -27,7 +27,7 @@ impl From<Refused> for Unlisted {
 }
 
 // An `end` line was printed and all was written; a refusal was printed, by its number and its line; a write failed, and nothing was written after it; the text
-// could not be read, and nothing was printed. Any number can be told, also one that is no refusal of today.
+// could not be read, and nothing was printed. Any number can be told, also one that no refusal has.
 #[derive(Clone, Copy)]
 pub enum Outcome {
     Ended,
