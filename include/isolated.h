@@ -14,6 +14,7 @@
  *     cc program.c $(pkg-config --cflags --libs isolated)
  *   At the top of the repository, after `tools/library`, which proves and builds the archive:
  *     cc -Iinclude program.c target/lib/libisolated.a
+ *   The archive asks for memcpy() and memset() and for nothing else from outside; that is tested of this archive.
  *
  * How memory is lent
  *   A slice is passed as a pointer and then its length in ELEMENTS (not bytes). Entries of degrees, output and work
